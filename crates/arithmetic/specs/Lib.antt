@@ -1,0 +1,4 @@
+pub mod Operators
+pub mod Meaning
+pub mod Plain
+pub mod Tracing

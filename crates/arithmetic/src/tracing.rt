@@ -1,6 +1,6 @@
 //! The tracing arithmetic: the plain number, and which probes it depends on.
 ghost use mathlib.Core.Path.{_≡_};
-ghost use Rattle.arithmetic.specs.Tracing.{tracing, probe-bit};
+ghost use Rattle.arithmetic.specs.Tracing.{tracing, traced, probe-bit};
 use crate::Arithmetic;
 use crate::operators::Combining;
 use crate::operators::Operator;
@@ -21,34 +21,33 @@ pub fn probe_mask(input: u8) -> u32
     if input < 32 { 1 << input } else { 0 }
 }
 
+// A number with its mask.
+fn with_mask(number: i32, mask: u32) -> Traced
+    ensures { λ r. ⌜ r ≡ traced number mask ⌝ }
+{
+    Traced { number, mask }
+}
+
 pub impl Arithmetic for Tracing as TracingArithmetic {
     type Value = Traced;
 
     ghost meaning = { λ _. tracing };
 
     fn constant(&self, number: i32) -> Traced {
-        Traced { number, mask: 0 }
+        with_mask(number, 0)
     }
 
     fn reading(&self, input: u8, number: i32) -> Traced {
-        Traced {
-            number,
-            mask: probe_mask(input),
-        }
+        with_mask(number, probe_mask(input))
     }
 
     fn binary(&self, operator: Operator, first: Traced, second: Traced) -> Traced {
-        Traced {
-            number: binary_number(operator, first.number, second.number),
-            mask: first.mask | second.mask,
-        }
+        let number = binary_number(operator, first.number, second.number);
+        with_mask(number, first.mask | second.mask)
     }
 
     fn inverted(&self, value: Traced) -> Traced {
-        Traced {
-            number: inverted_number(value.number),
-            mask: value.mask,
-        }
+        with_mask(inverted_number(value.number), value.mask)
     }
 
     fn shows(&self, value: Traced) -> i32 {
@@ -56,23 +55,16 @@ pub impl Arithmetic for Tracing as TracingArithmetic {
     }
 
     fn limited(&self, low: i32, high: i32, value: Traced) -> Traced {
-        Traced {
-            number: limited_number(low, high, value.number),
-            mask: value.mask,
-        }
+        let number = limited_number(low, high, value.number);
+        with_mask(number, value.mask)
     }
 
     fn combined(&self, operator: Combining, first: Traced, second: Traced) -> Traced {
         let number = combined_number(operator, first.number, second.number);
-        match operator {
-            Combining::Left => Traced {
-                number,
-                mask: first.mask,
-            },
-            _ => Traced {
-                number,
-                mask: first.mask | second.mask,
-            },
-        }
+        let mask = match operator {
+            Combining::Left => first.mask,
+            _ => first.mask | second.mask,
+        };
+        with_mask(number, mask)
     }
 }

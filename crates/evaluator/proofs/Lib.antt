@@ -1,6 +1,7 @@
 pub mod Alike
 pub mod Performing
 pub mod Reading
+pub mod Sampling
 pub mod Stacking
 pub mod Taking
 pub mod Tracing

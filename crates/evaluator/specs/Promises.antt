@@ -16,7 +16,7 @@ use Rattle.arithmetic.specs.Tracing.{tracing}
 use Rattle.arithmetic.specs.declared.traced.Traced.{Traced}
 use Rattle.evaluator.specs.Commands.{Command, Writable, written, commands-of, all-read}
 use Rattle.evaluator.specs.Outcomes.{mapped}
-use Rattle.evaluator.specs.Rates.{rate-of}
+use Rattle.evaluator.specs.Rates.{rate-of, shown-number}
 
 -- Reading and writing are inverse: bytes are read as certain commands exactly if these can be written and are written as those bytes.
 abbrev pub Reading-inverts-writing : Type 0
@@ -28,7 +28,7 @@ Reading-inverts-writing =
 abbrev pub Tracing-keeps-the-rate : Type 0
 Tracing-keeps-the-rate =
     (low high : ℤ) (bs : List ℕ) (rs : List ℤ) →
-    mapped (λ (x : Traced). x .number) (rate-of tracing low high bs rs) ≡ rate-of plain low high bs rs
+    mapped shown-number (rate-of tracing low high bs rs) ≡ rate-of plain low high bs rs
 
 -- Input variable i is among the probes of a mask.
 abbrev pub has-probe : ℕ → ℕ → Bool

@@ -53,11 +53,11 @@ plain-combined Left a b = a
 
 -- A plain value is the number that it shows.
 abbrev pub plain : Meaning ℤ
-plain = record
-  { constant = λ n. n
-  ; reading = λ i n. n
-  ; operated = plain-operated
-  ; shows = λ a. a
-  ; limited = clamped
-  ; combined = plain-combined
-  }
+plain = record {
+  constant = λ n. n;
+  reading = λ i n. n;
+  operated = plain-operated;
+  shows = λ a. a;
+  limited = clamped;
+  combined = plain-combined;
+}

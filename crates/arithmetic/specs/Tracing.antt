@@ -32,11 +32,11 @@ combined-mask Left m n = m
 
 -- Every number is the plain one; a constant depends on no probe, and limiting keeps the mask.
 abbrev pub tracing : Meaning Traced
-tracing = record
-  { constant = λ n. traced n 0
-  ; reading = λ i n. traced n (probe-bit i)
-  ; operated = traced-operated
-  ; shows = λ x. x .number
-  ; limited = λ low high x. traced (clamped low high (x .number)) (x .mask)
-  ; combined = λ o x y. traced (plain-combined o (x .number) (y .number)) (combined-mask o (x .mask) (y .mask))
-  }
+tracing = record {
+  constant = λ n. traced n 0;
+  reading = λ i n. traced n (probe-bit i);
+  operated = traced-operated;
+  shows = λ x. x .number;
+  limited = λ low high x. traced (clamped low high (x .number)) (x .mask);
+  combined = λ o x y. traced (plain-combined o (x .number) (y .number)) (combined-mask o (x .mask) (y .mask));
+}

@@ -5,6 +5,8 @@ ghost use Rattle.arithmetic.specs.Meaning.{Meaning, two, inverse, Constants-sh
 
 pub mod operators;
 pub mod plain;
+#[cfg(test)]
+mod tests;
 pub mod traced;
 pub mod tracing;
 

@@ -60,7 +60,7 @@ module _ {V W : Type 0} where
 
     -- The same test between related results gives related results.
     pub conds-alike : (b c : Bool) (r s : Result V Refusal) (r′ s′ : Result W Refusal) → b ≡ c →
-      (b ≡ true → Results-alike R r r′) → (b ≡ false → Results-alike R s s′) → Results-alike R (cond b r s) (cond c r′ s′)
+        (b ≡ true → Results-alike R r r′) → (b ≡ false → Results-alike R s s′) → Results-alike R (cond b r s) (cond c r′ s′)
     conds-alike true true r s r′ s′ e h k = h refl
     conds-alike true false r s r′ s′ e h k = absurd (true≢false e)
     conds-alike false true r s r′ s′ e h k = absurd (false≢true e)
@@ -68,8 +68,8 @@ module _ {V W : Type 0} where
 
 -- Going on from related results with functions that keep the relation gives related results.
 pub and-then-alike : {A B C D : Type 0} (R : A → B → Type 0) (S : C → D → Type 0) (r : Result A Refusal) (s : Result B Refusal)
-  (f : A → Result C Refusal) (g : B → Result D Refusal) → Results-alike R r s →
-  ((a : A) (b : B) → R a b → Results-alike S (f a) (g b)) → Results-alike S (and-then r f) (and-then s g)
+    (f : A → Result C Refusal) (g : B → Result D Refusal) → Results-alike R r s →
+    ((a : A) (b : B) → R a b → Results-alike S (f a) (g b)) → Results-alike S (and-then r f) (and-then s g)
 and-then-alike R S (Ok a) (Ok b) f g h k = k a b h
 and-then-alike R S (Ok a) (Err e) f g h k = absurd h
 and-then-alike R S (Err e) (Ok b) f g h k = absurd h
@@ -77,7 +77,7 @@ and-then-alike R S (Err e) (Err d) f g h k = h
 
 -- Functions that keep the relation give related results of related results.
 pub mapped-alike : {A B C D : Type 0} (R : A → B → Type 0) (S : C → D → Type 0) (r : Result A Refusal) (s : Result B Refusal)
-  (f : A → C) (g : B → D) → Results-alike R r s → ((a : A) (b : B) → R a b → S (f a) (g b)) → Results-alike S (mapped f r) (mapped g s)
+    (f : A → C) (g : B → D) → Results-alike R r s → ((a : A) (b : B) → R a b → S (f a) (g b)) → Results-alike S (mapped f r) (mapped g s)
 mapped-alike R S (Ok a) (Ok b) f g h k = k a b h
 mapped-alike R S (Ok a) (Err e) f g h k = absurd h
 mapped-alike R S (Err e) (Ok b) f g h k = absurd h
@@ -86,13 +86,13 @@ mapped-alike R S (Err e) (Err d) f g h k = h
 module _ {V W : Type 0} (R : V → W → Type 0) where
   -- Stacking related values on related stacks gives related results.
   pub stack-one-alike : (p : ℕ) (x : V) (y : W) (xs : List V) (ys : List W) → R x y → Lists-alike R xs ys →
-    Results-alike (Lists-alike R) (stack-one p x xs) (stack-one p y ys)
+      Results-alike (Lists-alike R) (stack-one p x xs) (stack-one p y ys)
   stack-one-alike p x y xs ys h k =
       conds-alike (Lists-alike R) _ _ _ _ _ _ (ap (λ n. ltb n deepest) (lists-length R xs ys k)) (λ _. (h, k)) (λ _. refl)
 
   -- Stacking what was found, where both or neither were found, gives related results.
   pub stack-found-alike : (p : ℕ) (x : Option V) (y : Option W) (xs : List V) (ys : List W) → Options-alike R x y → Lists-alike R xs ys →
-    Results-alike (Lists-alike R) (stack-found p x xs) (stack-found p y ys)
+      Results-alike (Lists-alike R) (stack-found p x xs) (stack-found p y ys)
   stack-found-alike p None None xs ys h k =
       conds-alike (Lists-alike R) _ _ _ _ _ _ (ap (λ n. ltb n deepest) (lists-length R xs ys k)) (λ _. refl) (λ _. refl)
   stack-found-alike p None (Some y) xs ys h k = absurd h
@@ -101,8 +101,8 @@ module _ {V W : Type 0} (R : V → W → Type 0) where
 
   -- Operators on two values that keep the relation give related results of related stacks.
   pub operate-two-alike : (p : ℕ) (f : V → V → V) (g : W → W → W) (xs : List V) (ys : List W) →
-    ((x x′ : V) (y y′ : W) → R x y → R x′ y′ → R (f x x′) (g y y′)) → Lists-alike R xs ys →
-    Results-alike (Lists-alike R) (operate-two p f xs) (operate-two p g ys)
+      ((x x′ : V) (y y′ : W) → R x y → R x′ y′ → R (f x x′) (g y y′)) → Lists-alike R xs ys →
+      Results-alike (Lists-alike R) (operate-two p f xs) (operate-two p g ys)
   operate-two-alike p f g [] [] keep h = refl
   operate-two-alike p f g [] (y ∷ ys) keep h = absurd h
   operate-two-alike p f g (x ∷ xs) [] keep h = absurd h
@@ -113,8 +113,8 @@ module _ {V W : Type 0} (R : V → W → Type 0) where
 
   -- Operators on one value that keep the relation give related results of related stacks.
   pub operate-one-alike : (p : ℕ) (f : V → V) (g : W → W) (xs : List V) (ys : List W) →
-    ((x : V) (y : W) → R x y → R (f x) (g y)) → Lists-alike R xs ys →
-    Results-alike (Lists-alike R) (operate-one p f xs) (operate-one p g ys)
+      ((x : V) (y : W) → R x y → R (f x) (g y)) → Lists-alike R xs ys →
+      Results-alike (Lists-alike R) (operate-one p f xs) (operate-one p g ys)
   operate-one-alike p f g [] [] keep h = refl
   operate-one-alike p f g [] (y ∷ ys) keep h = absurd h
   operate-one-alike p f g (x ∷ xs) [] keep h = absurd h
@@ -134,7 +134,7 @@ module _ {V W : Type 0} (R : V → W → Type 0) where
     module _ (look : ℕ → Option V) (look′ : ℕ → Option W) (𝓛 : (v : ℕ) → Options-alike R (look v) (look′ v)) where
       -- A command keeps stacks related.
       pub performed-alike : (p : ℕ) (c : Command) (xs : List V) (ys : List W) → Lists-alike R xs ys →
-        Results-alike (Lists-alike R) (performed M look p c xs) (performed N look′ p c ys)
+          Results-alike (Lists-alike R) (performed M look p c xs) (performed N look′ p c ys)
       performed-alike p (constant n) xs ys h = stack-one-alike p (M .constant n) (N .constant n) xs ys (𝓐 .constants n) h
       performed-alike p (variable v) xs ys h = stack-found-alike p (look v) (look′ v) xs ys (𝓛 v) h
       performed-alike p (operator o) xs ys h =
@@ -144,32 +144,32 @@ module _ {V W : Type 0} (R : V → W → Type 0) where
 
       -- A command that may not have been read keeps stacks related.
       pub step-alike : (p : ℕ) (c : Option Command) (xs : List V) (ys : List W) → Lists-alike R xs ys →
-        Results-alike (Lists-alike R) (step M look p c xs) (step N look′ p c ys)
+          Results-alike (Lists-alike R) (step M look p c xs) (step N look′ p c ys)
       step-alike p None xs ys h = refl
       step-alike p (Some c) xs ys h = performed-alike p c xs ys h
 
       -- Commands in turn keep stacks related.
       pub run-alike : (cs : List Placed) (xs : List V) (ys : List W) → Lists-alike R xs ys →
-        Results-alike (Lists-alike R) (run M look cs xs) (run N look′ cs ys)
+          Results-alike (Lists-alike R) (run M look cs xs) (run N look′ cs ys)
       run-alike [] xs ys h = h
       run-alike (c ∷ cs) xs ys h =
           and-then-alike (Lists-alike R) (Lists-alike R) (step M look (c .place) (c .command) xs) (step N look′ (c .place) (c .command) ys)
-            (run M look cs) (run N look′ cs) (step-alike (c .place) (c .command) xs ys h) (run-alike cs)
+          (run M look cs) (run N look′ cs) (step-alike (c .place) (c .command) xs ys h) (run-alike cs)
 
       -- The values of an expression are related.
       pub evaluated-alike : (bs : List ℕ) → Results-alike R (evaluated M look bs) (evaluated N look′ bs)
       evaluated-alike bs =
           conds-alike R (leb 1 (length bs) && leb (length bs) longest) (leb 1 (length bs) && leb (length bs) longest) _ _ _ _ refl
-            (λ _. and-then-alike (Lists-alike R) R (run M look (commands-of bs) []) (run N look′ (commands-of bs) []) only only
-              (run-alike (commands-of bs) [] [] tt) only-alike)
-            (λ _. refl)
+          (λ _. and-then-alike (Lists-alike R) R (run M look (commands-of bs) []) (run N look′ (commands-of bs) []) only only
+          (run-alike (commands-of bs) [] [] tt) only-alike)
+          (λ _. refl)
 
     -- The rates of an expression are related, over lists of readings that are as long and, where they are at most 32, are related variable by variable.
     pub rates-alike : (low high : ℤ) (bs : List ℕ) (rs rs′ : List ℤ) → length rs ≡ length rs′ →
-      (leb (length rs) most-variables ≡ true → (v : ℕ) → Options-alike R (reading-of M rs v) (reading-of N rs′ v)) →
-      Results-alike R (rate-of M low high bs rs) (rate-of N low high bs rs′)
+        (leb (length rs) most-variables ≡ true → (v : ℕ) → Options-alike R (reading-of M rs v) (reading-of N rs′ v)) →
+        Results-alike R (rate-of M low high bs rs) (rate-of N low high bs rs′)
     rates-alike low high bs rs rs′ long 𝓛 =
         conds-alike R (leb (length rs) most-variables) (leb (length rs′) most-variables) _ _ _ _ (ap (λ n. leb n most-variables) long)
-          (λ e. mapped-alike R R (evaluated M (reading-of M rs) bs) (evaluated N (reading-of N rs′) bs) (M .limited low high) (N .limited low high)
-            (evaluated-alike (reading-of M rs) (reading-of N rs′) (𝓛 e) bs) (𝓐 .limits low high))
-          (λ _. refl)
+        (λ e. mapped-alike R R (evaluated M (reading-of M rs) bs) (evaluated N (reading-of N rs′) bs) (M .limited low high) (N .limited low high)
+        (evaluated-alike (reading-of M rs) (reading-of N rs′) (𝓛 e) bs) (𝓐 .limits low high))
+        (λ _. refl)

@@ -127,8 +127,8 @@ module _ (b : ℕ) (bs : List ℕ) (h : Bytes bs) where
       cond-both (eqb b 0x40) _ _ (Found (b ∷ bs))
       (λ e. subst (λ n. Found (n ∷ bs) (constant-in bs)) (sym (eqb-true _ _ e)) (constant-found bs h))
       (λ _. cond-both (eqb b 0x41) _ _ (Found (b ∷ bs))
-        (λ e. subst (λ n. Found (n ∷ bs) (variable-in bs)) (sym (eqb-true _ _ e)) (variable-found bs h))
-        (λ _. single-found))
+      (λ e. subst (λ n. Found (n ∷ bs) (variable-in bs)) (sym (eqb-true _ _ e)) (variable-found bs h))
+      (λ _. single-found))
 
 -- If commands were read, they can be written, and are written as these bytes.
 abbrev Read : List ℕ → Option (List Command) → Type 0
@@ -157,6 +157,7 @@ listing-read (suc n) end (b ∷ bs) h k =
 
 -- Reading inverts writing.
 pub reading-inverts-writing : Reading-inverts-writing
-reading-inverts-writing bs cs h =
-    (λ e. subst (Read bs) e (listing-read (length bs) (length bs) bs h (omega arith)),
-     λ w. subst (λ l. all-read (commands-of l) ≡ Some cs) (w .1) (commands-back cs _ _ (omega arith) (w .0)))
+reading-inverts-writing bs cs h = (
+  λ e. subst (Read bs) e (listing-read (length bs) (length bs) bs h (omega arith)),
+  λ w. subst (λ l. all-read (commands-of l) ≡ Some cs) (w .1) (commands-back cs _ _ (omega arith) (w .0)),
+)

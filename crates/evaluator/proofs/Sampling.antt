@@ -45,16 +45,16 @@ module _ {V : Type 0} (M : Meaning V) (rs : List ℤ) where
       ((v : ℕ) → v < i → nth m v ≡ reading-of M rs v) → (v : ℕ) → v < i + 1 → nth (set m i x) v ≡ reading-of M rs v
   one-reading-more m i x long h is before =
       below-more (λ v. nth (set m i x) v ≡ reading-of M rs v) i
-        (λ v k. nth-set-below m i v x k ∙ before v k)
-        (nth-set-same m i x long ∙ ap Some is ∙ ap (reading-value M i) (sym (nth-getD rs i (pos 0) h)))
+      (λ v k. nth-set-below m i v x k ∙ before v k)
+      (nth-set-same m i x long ∙ ap Some is ∙ ap (reading-value M i) (sym (nth-getD rs i (pos 0) h)))
 
   -- With all readings placed, the first places hold what the variables have, and other variables have no place.
   pub places-read : (m : List V) → length rs ≤ 32 → ((v : ℕ) → v < length rs → nth m v ≡ reading-of M rs v) →
       (v : ℕ) → value-at (take 1024 m) (first-places (length rs) v) ≡ reading-of M rs v
   places-read m few placed v = ⊎-elim
-    (λ h. ap (λ t. value-at (take 1024 m) (cond t (Some v) None)) (lt-ltb v (length rs) h) ∙ nth-take m 1024 v (omega arith) ∙ placed v h)
-    (λ h. ap (λ t. value-at (take 1024 m) (cond t (Some v) None)) (le-ltb v (length rs) h) ∙ ap (reading-value M v) (sym (nth-past rs v h)))
-    (cases-lt v (length rs))
+      (λ h. ap (λ t. value-at (take 1024 m) (cond t (Some v) None)) (lt-ltb v (length rs) h) ∙ nth-take m 1024 v (omega arith) ∙ placed v h)
+      (λ h. ap (λ t. value-at (take 1024 m) (cond t (Some v) None)) (le-ltb v (length rs) h) ∙ ap (reading-value M v) (sym (nth-past rs v h)))
+      (cases-lt v (length rs))
 
   -- An evaluation over those places, limited, is the rate.
   pub rate-is : (m : List V) (bs : List ℕ) (low high : ℤ) → length m ≡ 1040 → length rs ≤ 32 → ((v : ℕ) → v < length rs → nth m v ≡ reading-of M rs v) →

@@ -34,6 +34,7 @@ module _ {T : Type 0} (ps : List T) (b : ℕ) where
       ∙ ap (λ i. x ∷ reverse (take i (drop b ps))) less
 
 pub take-min : {T : Type 0} (l : List T) (n : ℕ) → take (min n (length l)) l ≡ take n l
-take-min l n = elim (decLe n (length l))
-  [ yes h ↦ ap (λ k. take k l) (omega arith)
-  | no h ↦ ap (λ k. take k l) (omega arith) ∙ take-all (length l) l (omega arith) ∙ sym (take-all n l (omega arith)) ]
+take-min l n = elim (decLe n (length l)) [
+  | yes h ↦ ap (λ k. take k l) (omega arith)
+  | no h ↦ ap (λ k. take k l) (omega arith) ∙ take-all (length l) l (omega arith) ∙ sym (take-all n l (omega arith))
+]

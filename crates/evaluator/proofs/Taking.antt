@@ -31,16 +31,16 @@ constant-first bs e h =
     let Goal : List ℕ → Type 0 = λ r. next-command bs ≡ Some (constant (signed-of (getD r 0 0) (getD r 1 0) (getD r 2 0) (getD r 3 0)), from 4 r) in
     let Part : List ℕ → Type 0 = λ r. 4 ≤ length r in
     subst Goal (sym (take-rest bs 1)) (go bs e (subst Part (take-rest bs 1) h)) where
-  go : (bs : List ℕ) → getD bs 0 0 ≡ 0x40 → 4 ≤ length (drop 1 bs) →
-      next-command bs ≡ Some (constant (signed-of (getD (drop 1 bs) 0 0) (getD (drop 1 bs) 1 0) (getD (drop 1 bs) 2 0) (getD (drop 1 bs) 3 0)), from 4 (drop 1 bs))
-  go [] e h = absurd (omega arith)
-  go (b ∷ []) e h = absurd (omega arith)
-  go (b ∷ a1 ∷ []) e h = absurd (omega arith)
-  go (b ∷ a1 ∷ a2 ∷ []) e h = absurd (omega arith)
-  go (b ∷ a1 ∷ a2 ∷ a3 ∷ []) e h = absurd (omega arith)
-  go (b ∷ a1 ∷ a2 ∷ a3 ∷ a4 ∷ bs) e h =
-      ap (λ n. next-command (n ∷ a1 ∷ a2 ∷ a3 ∷ a4 ∷ bs)) e
-      ∙ ap (λ r. Some (constant (signed-of a1 a2 a3 a4), r)) (sym (take-rest (a1 ∷ a2 ∷ a3 ∷ a4 ∷ bs) 4))
+      go : (bs : List ℕ) → getD bs 0 0 ≡ 0x40 → 4 ≤ length (drop 1 bs) →
+          next-command bs ≡ Some (constant (signed-of (getD (drop 1 bs) 0 0) (getD (drop 1 bs) 1 0) (getD (drop 1 bs) 2 0) (getD (drop 1 bs) 3 0)), from 4 (drop 1 bs))
+      go [] e h = absurd (omega arith)
+      go (b ∷ []) e h = absurd (omega arith)
+      go (b ∷ a1 ∷ []) e h = absurd (omega arith)
+      go (b ∷ a1 ∷ a2 ∷ []) e h = absurd (omega arith)
+      go (b ∷ a1 ∷ a2 ∷ a3 ∷ []) e h = absurd (omega arith)
+      go (b ∷ a1 ∷ a2 ∷ a3 ∷ a4 ∷ bs) e h =
+          ap (λ n. next-command (n ∷ a1 ∷ a2 ∷ a3 ∷ a4 ∷ bs)) e
+          ∙ ap (λ r. Some (constant (signed-of a1 a2 a3 a4), r)) (sym (take-rest (a1 ∷ a2 ∷ a3 ∷ a4 ∷ bs) 4))
 
 -- A variable is followed by its number.
 pub variable-first : (bs : List ℕ) → getD bs 0 0 ≡ 0x41 → 1 ≤ length (from 1 bs) →
@@ -49,10 +49,10 @@ variable-first bs e h =
     let Goal : List ℕ → Type 0 = λ r. next-command bs ≡ Some (variable (getD r 0 0), from 1 r) in
     let Part : List ℕ → Type 0 = λ r. 1 ≤ length r in
     subst Goal (sym (take-rest bs 1)) (go bs e (subst Part (take-rest bs 1) h)) where
-  go : (bs : List ℕ) → getD bs 0 0 ≡ 0x41 → 1 ≤ length (drop 1 bs) → next-command bs ≡ Some (variable (getD (drop 1 bs) 0 0), from 1 (drop 1 bs))
-  go [] e h = absurd (omega arith)
-  go (b ∷ []) e h = absurd (omega arith)
-  go (b ∷ v ∷ bs) e h = ap (λ n. next-command (n ∷ v ∷ bs)) e ∙ ap (λ r. Some (variable v, r)) (sym (take-rest (v ∷ bs) 1))
+      go : (bs : List ℕ) → getD bs 0 0 ≡ 0x41 → 1 ≤ length (drop 1 bs) → next-command bs ≡ Some (variable (getD (drop 1 bs) 0 0), from 1 (drop 1 bs))
+      go [] e h = absurd (omega arith)
+      go (b ∷ []) e h = absurd (omega arith)
+      go (b ∷ v ∷ bs) e h = ap (λ n. next-command (n ∷ v ∷ bs)) e ∙ ap (λ r. Some (variable v, r)) (sym (take-rest (v ∷ bs) 1))
 
 -- Bytes whose first is not 0 are some.
 pub some-bytes : (bs : List ℕ) (n : ℕ) → getD bs 0 0 ≡ n → 0 < n → 0 < length bs

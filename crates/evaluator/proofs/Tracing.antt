@@ -35,13 +35,13 @@ Shows x n = x .number ≡ n
 
 -- Tracing and plain arithmetic show the same numbers.
 shows-alike : Alike Shows tracing plain
-shows-alike = record
-  { constants = λ n. refl
-  ; operators = λ o x x′ y y′ h k. ap₂ (plain-two o) h k
-  ; inversions = λ x y h. ap plain-not h
-  ; limits = λ low high x y h. ap (clamped low high) h
-  ; combinings = λ o x x′ y y′ h k. ap₂ (plain-combined o) h k
-  }
+shows-alike = record {
+  constants = λ n. refl;
+  operators = λ o x x′ y y′ h k. ap₂ (plain-two o) h k;
+  inversions = λ x y h. ap plain-not h;
+  limits = λ low high x y h. ap (clamped low high) h;
+  combinings = λ o x x′ y y′ h k. ap₂ (plain-combined o) h k;
+}
 
 -- A reading shows the same number in both arithmetics.
 shows-reading : (v : ℕ) (n : Option ℤ) → Options-alike Shows (reading-value tracing v n) (reading-value plain v n)
@@ -59,7 +59,7 @@ shows-mapped (Err e) (Err f) h = ap Err h
 pub tracing-keeps-the-rate : Tracing-keeps-the-rate
 tracing-keeps-the-rate low high bs rs =
     shows-mapped (rate-of tracing low high bs rs) (rate-of plain low high bs rs)
-      (rates-alike Shows tracing plain shows-alike low high bs rs rs refl (λ _ v. shows-reading v (nth rs v)))
+    (rates-alike Shows tracing plain shows-alike low high bs rs rs refl (λ _ v. shows-reading v (nth rs v)))
 
 -- Each bit of united masks is the greater of the two bits.
 united-bit : (i m n : ℕ) → bitOr m n / 2 ^ i % 2 ≡ max (m / 2 ^ i % 2) (n / 2 ^ i % 2)
@@ -86,13 +86,13 @@ module _ (i : ℕ) where
 
   -- United masks and a function of both numbers keep values the same but for probe i.
   but-for-united : (f : ℤ → ℤ → ℤ) (x x′ y y′ : Traced) → But-for x y → But-for x′ y′ →
-    But-for (traced (f (x .number) (x′ .number)) (bitOr (x .mask) (x′ .mask))) (traced (f (y .number) (y′ .number)) (bitOr (y .mask) (y′ .mask)))
+      But-for (traced (f (x .number) (x′ .number)) (bitOr (x .mask) (x′ .mask))) (traced (f (y .number) (y′ .number)) (bitOr (y .mask) (y′ .mask)))
   but-for-united f x x′ y y′ h k =
       (ap₂ bitOr (h .0) (k .0), λ e. ap₂ f (h .1 (absent-first i (x .mask) (x′ .mask) e)) (k .1 (absent-second i (x .mask) (x′ .mask) e)))
 
   -- Combining keeps values the same but for probe i.
   but-for-combined : (o : Combining) (x x′ y y′ : Traced) → But-for x y → But-for x′ y′ →
-    But-for (tracing .combined o x x′) (tracing .combined o y y′)
+      But-for (tracing .combined o x x′) (tracing .combined o y y′)
   but-for-combined Sum x x′ y y′ h k = but-for-united (plain-combined Sum) x x′ y y′ h k
   but-for-combined Least x x′ y y′ h k = but-for-united (plain-combined Least) x x′ y y′ h k
   but-for-combined Greatest x x′ y y′ h k = but-for-united (plain-combined Greatest) x x′ y y′ h k
@@ -100,13 +100,13 @@ module _ (i : ℕ) where
 
   -- Tracing keeps values the same but for probe i.
   but-for-alike : Alike But-for tracing tracing
-  but-for-alike = record
-    { constants = λ n. (refl, λ _. refl)
-    ; operators = λ o. but-for-united (plain-two o)
-    ; inversions = λ x y h. (h .0, λ e. ap plain-not (h .1 e))
-    ; limits = λ low high x y h. (h .0, λ e. ap (clamped low high) (h .1 e))
-    ; combinings = but-for-combined
-    }
+  but-for-alike = record {
+    constants = λ n. (refl, λ _. refl);
+    operators = λ o. but-for-united (plain-two o);
+    inversions = λ x y h. (h .0, λ e. ap plain-not (h .1 e));
+    limits = λ low high x y h. (h .0, λ e. ap (clamped low high) (h .1 e));
+    combinings = but-for-combined;
+  }
 
   -- The same reading gives values that are the same.
   but-for-same : (v : ℕ) (n : Option ℤ) → Options-alike But-for (reading-value tracing v n) (reading-value tracing v n)
@@ -119,19 +119,21 @@ module _ (i : ℕ) where
 
   -- Lists of readings that are as long, and at most 32, give at input i values that are the same but for probe i.
   but-for-own-reading : (rs rs′ : List ℤ) → length rs ≡ length rs′ → length rs ≤ 32 →
-    Options-alike But-for (reading-of tracing rs i) (reading-of tracing rs′ i)
-  but-for-own-reading rs rs′ long few = elim (cases-lt i (length rs))
-    [ inl h ↦ let h′ : i < length rs′ = omega arith in
-              rw (nth-getD rs i (pos 0) h, nth-getD rs′ i (pos 0) h′) (but-for-own (omega arith) (getD rs i (pos 0)) (getD rs′ i (pos 0)))
+      Options-alike But-for (reading-of tracing rs i) (reading-of tracing rs′ i)
+  but-for-own-reading rs rs′ long few = elim (cases-lt i (length rs)) [
+    | inl h ↦ let h′ : i < length rs′ = omega arith in
+        rw (nth-getD rs i (pos 0) h, nth-getD rs′ i (pos 0) h′) (but-for-own (omega arith) (getD rs i (pos 0)) (getD rs′ i (pos 0)))
     | inr h ↦ let h′ : length rs′ ≤ i = omega arith in
-              rw (nth-past rs i h, nth-past rs′ i h′) tt ]
+        rw (nth-past rs i h, nth-past rs′ i h′) tt
+  ]
 
   -- Readings that differ at input i at most give values that are the same but for probe i.
   but-for-readings : (rs rs′ : List ℤ) → length rs ≤ 32 → Differ-only-at i rs rs′ →
-    (v : ℕ) → Options-alike But-for (reading-of tracing rs v) (reading-of tracing rs′ v)
-  but-for-readings rs rs′ few d v = elim (cases-eq v i)
-    [ inl e ↦ rw e (but-for-own-reading rs rs′ (d .long) few)
-    | inr e ↦ rw (d .same v e) (but-for-same v (nth rs′ v)) ]
+      (v : ℕ) → Options-alike But-for (reading-of tracing rs v) (reading-of tracing rs′ v)
+  but-for-readings rs rs′ few d v = elim (cases-eq v i) [
+    | inl e ↦ rw e (but-for-own-reading rs rs′ (d .long) few)
+    | inr e ↦ rw (d .same v e) (but-for-same v (nth rs′ v))
+  ]
 
   -- A result without probe i is the same as a result that is the same but for probe i.
   but-for-result : (x : Traced) (r : Result Traced Refusal) → has-probe i (x .mask) ≡ false → Results-alike But-for (Ok x) r → r ≡ Ok x
@@ -145,6 +147,6 @@ module _ (i : ℕ) where
 pub absent-probes-did-not-enter : Absent-probes-did-not-enter
 absent-probes-did-not-enter low high bs rs rs′ i d x ok e =
     but-for-result i x (rate-of tracing low high bs rs′) e
-      (subst (λ r. Results-alike (But-for i) r (rate-of tracing low high bs rs′)) ok
-        (rates-alike (But-for i) tracing tracing (but-for-alike i) low high bs rs rs′ (d .long)
-          (λ few. but-for-readings i rs rs′ (leb-true (length rs) 32 few) d)))
+    (subst (λ r. Results-alike (But-for i) r (rate-of tracing low high bs rs′)) ok
+    (rates-alike (But-for i) tracing tracing (but-for-alike i) low high bs rs rs′ (d .long)
+    (λ few. but-for-readings i rs rs′ (leb-true (length rs) 32 few) d)))

@@ -48,11 +48,12 @@ module _ {V : Type 0} (M : Meaning V) (look : ℕ → Option V) where
   next-turn code rest rest′ st st′ t some shorter e =
       let f = left-first (t .fuel) (length code) rest st some (t .enough) in
       let long = f .1 in let w = t .within in
-      record
-        { fuel = f .0
-        ; enough = omega arith
-        ; within = omega arith
-        ; same = t .same ∙ f .2 ∙ ap (λ r. and-then r (λ (q : List V × List ℕ). run M look (listing (f .0) (length code) (q .1)) (q .0))) (sym e) }
+      record {
+        fuel = f .0;
+        enough = omega arith;
+        within = omega arith;
+        same = t .same ∙ f .2 ∙ ap (λ r. and-then r (λ (q : List V × List ℕ). run M look (listing (f .0) (length code) (q .1)) (q .0))) (sym e);
+      }
 
   -- A turn that is refused refuses the whole.
   pub refused-turn : (code rest : List ℕ) (st : List V) (r : Refusal) → Turn code rest st → 0 < length rest →

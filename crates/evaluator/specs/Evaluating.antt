@@ -93,5 +93,5 @@ all-places = 1040
 -- Evaluating over a value memory, where `places` gives the place of each variable that can be read.
 abbrev pub evaluated-in : {V : Type 0} → Meaning V → (places : ℕ → Option ℕ) → (memory : List V) → List ℕ → Result V Refusal
 evaluated-in M places memory bs = cond (eqb (length memory) all-places)
-  (evaluated M (λ v. value-at (take variable-places memory) (places v)) bs)
-  (Err Memory)
+    (evaluated M (λ v. value-at (take variable-places memory) (places v)) bs)
+    (Err Memory)

@@ -10,11 +10,11 @@ ghost use Rattle.evaluator.specs.Commands.{next-command, commands-of};
 ghost use Rattle.evaluator.specs.Evaluating.{stack-one, stack-found, operate-two, operate-one, only, value-at, taken, run, evaluated-in};
 ghost use Rattle.evaluator.specs.Outcomes.{leaving, leaving-with};
 ghost use Rattle.evaluator.specs.Stacks.{stacked, room, before-base};
-use arithmetic::Arithmetic;
-use arithmetic::operators::Operator;
 use crate::refusal::Refusal;
 use crate::scope::Scope;
 use crate::stack::Stack;
+use arithmetic::Arithmetic;
+use arithmetic::operators::Operator;
 
 /// The places of variables in the value memory; the work places come after them.
 pub const VARIABLE_PLACES: usize = 1024;
@@ -51,7 +51,12 @@ fn variable_value<T: Copy, S: Scope>(scope: &S, variable: u8, stack: &Stack<'_, 
 }
 
 // The value of a variable is stacked.
-fn stack_variable<T: Copy, S: Scope>(scope: &S, variable: u8, place: usize, stack: &mut Stack<'_, T>) -> Result<(), Refusal>
+fn stack_variable<T: Copy, S: Scope>(
+    scope: &S,
+    variable: u8,
+    place: usize,
+    stack: &mut Stack<'_, T>,
+) -> Result<(), Refusal>
     requires { ⌜ room (now stack) ≡ 16 ⌝ ∗ ⌜ length (stacked (now stack)) < 16 ⌝ }
     ensures answer { λ r. ⌜ leaving (stacked (now (stack .exit))) r ≡ stack-found place (value-at (before-base (now (stack .entry))) (S·Scope .places (now (scope .entry)) variable)) (stacked (now (stack .entry))) ⌝ }
     ensures room { λ _. ⌜ room (now (stack .exit)) ≡ room (now (stack .entry)) ⌝ }
@@ -65,7 +70,12 @@ fn stack_variable<T: Copy, S: Scope>(scope: &S, variable: u8, place: usize, stac
 }
 
 // An operator on the two values stacked last.
-fn operate_on_two<A: Arithmetic>(arithmetic: &A, operator: Operator, place: usize, stack: &mut Stack<'_, A::Value>) -> Result<(), Refusal>
+fn operate_on_two<A: Arithmetic>(
+    arithmetic: &A,
+    operator: Operator,
+    place: usize,
+    stack: &mut Stack<'_, A::Value>,
+) -> Result<(), Refusal>
     requires { ⌜ room (now stack) ≡ 16 ⌝ }
     ensures answer { λ r. ⌜ leaving (stacked (now (stack .exit))) r ≡ operate-two place (λ x y. A·Arithmetic .meaning (now (arithmetic .entry)) .operated (two operator x y)) (stacked (now (stack .entry))) ⌝ }
     ensures room { λ _. ⌜ room (now (stack .exit)) ≡ room (now (stack .entry)) ⌝ }
@@ -82,7 +92,11 @@ fn operate_on_two<A: Arithmetic>(arithmetic: &A, operator: Operator, place: usiz
 }
 
 // The operator `not` on the value stacked last.
-fn operate_on_one<A: Arithmetic>(arithmetic: &A, place: usize, stack: &mut Stack<'_, A::Value>) -> Result<(), Refusal>
+fn operate_on_one<A: Arithmetic>(
+    arithmetic: &A,
+    place: usize,
+    stack: &mut Stack<'_, A::Value>,
+) -> Result<(), Refusal>
     requires { ⌜ room (now stack) ≡ 16 ⌝ }
     ensures answer { λ r. ⌜ leaving (stacked (now (stack .exit))) r ≡ operate-one place (λ x. A·Arithmetic .meaning (now (arithmetic .entry)) .operated (inverse x)) (stacked (now (stack .entry))) ⌝ }
     ensures room { λ _. ⌜ room (now (stack .exit)) ≡ room (now (stack .entry)) ⌝ }
@@ -96,7 +110,13 @@ fn operate_on_one<A: Arithmetic>(arithmetic: &A, place: usize, stack: &mut Stack
 }
 
 // The first command of the bytes left; answers the bytes after it.
-fn perform<'a, A: Arithmetic, S: Scope>(arithmetic: &A, scope: &S, code: &'a [u8], place: usize, stack: &mut Stack<'_, A::Value>) -> Result<&'a [u8], Refusal>
+fn perform<'a, A: Arithmetic, S: Scope>(
+    arithmetic: &A,
+    scope: &S,
+    code: &'a [u8],
+    place: usize,
+    stack: &mut Stack<'_, A::Value>,
+) -> Result<&'a [u8], Refusal>
     requires { ⌜ room (now stack) ≡ 16 ⌝ }
     ensures answer { λ r. ⌜ leaving-with (stacked (now (stack .exit))) r ≡ taken (A·Arithmetic .meaning (now (arithmetic .entry))) (λ v. value-at (before-base (now (stack .entry))) (S·Scope .places (now (scope .entry)) v)) place (next-command (now (code .entry))) (stacked (now (stack .entry))) ⌝ }
     ensures shorter { λ r. ⌜ made r (λ rest. length (rest .now) < length (now (code .entry))) ⌝ }
@@ -149,7 +169,12 @@ fn remaining<T: Copy>(stack: &mut Stack<'_, T>) -> Result<T, Refusal>
 }
 
 // All commands in turn.
-fn run_commands<A: Arithmetic, S: Scope>(arithmetic: &A, scope: &S, code: &[u8], stack: &mut Stack<'_, A::Value>) -> Result<(), Refusal>
+fn run_commands<A: Arithmetic, S: Scope>(
+    arithmetic: &A,
+    scope: &S,
+    code: &[u8],
+    stack: &mut Stack<'_, A::Value>,
+) -> Result<(), Refusal>
     requires { ⌜ room (now stack) ≡ 16 ⌝ ∗ ⌜ stacked (now stack) ≡ [] ⌝ }
     ensures answer { λ r. ⌜ leaving (stacked (now (stack .exit))) r ≡ run (A·Arithmetic .meaning (now (arithmetic .entry))) (λ v. value-at (before-base (now (stack .entry))) (S·Scope .places (now (scope .entry)) v)) (commands-of (now (code .entry))) [] ⌝ }
     ensures before { λ _. ⌜ before-base (now (stack .exit)) ≡ before-base (now (stack .entry)) ⌝ }
@@ -164,7 +189,12 @@ fn run_commands<A: Arithmetic, S: Scope>(arithmetic: &A, scope: &S, code: &[u8],
 }
 
 /// The value of an expression over a value memory of 1,040 places, or the first thing that is wrong with it.
-pub fn evaluate<A: Arithmetic, S: Scope>(arithmetic: &A, scope: &S, code: &[u8], memory: &mut [A::Value]) -> Result<A::Value, Refusal>
+pub fn evaluate<A: Arithmetic, S: Scope>(
+    arithmetic: &A,
+    scope: &S,
+    code: &[u8],
+    memory: &mut [A::Value],
+) -> Result<A::Value, Refusal>
     ensures answer { λ r. ⌜ r ≡ evaluated-in (A·Arithmetic .meaning (now (arithmetic .entry))) (S·Scope .places (now (scope .entry))) (now (memory .entry)) (now (code .entry)) ⌝ }
     ensures variables { λ _. ⌜ take 1024 (now (memory .exit)) ≡ take 1024 (now (memory .entry)) ⌝ }
     ensures refused { λ _. ⌜ ((length (now (memory .entry)) ≡ 1040 → ⊥) → now (memory .exit) ≡ now (memory .entry)) ⌝ }

@@ -6,3 +6,5 @@ pub mod rate;
 pub mod refusal;
 pub mod scope;
 pub mod stack;
+#[cfg(test)]
+mod tests;

@@ -16,7 +16,11 @@ impl Limits {
     pub fn new(low: i32, high: i32) -> Option<Limits>
         ensures { λ r. ⌜ Cases r (high <ℤ low) (λ l. (l .low ≡ low) × (l .high ≡ high)) ⌝ }
     {
-        if low <= high { Some(Limits { low, high }) } else { None }
+        if low <= high {
+            Some(Limits { low, high })
+        } else {
+            None
+        }
     }
 
     /// The lowest number.

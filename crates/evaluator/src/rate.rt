@@ -13,18 +13,18 @@ ghost use Rattle.arithmetic.specs.Tracing.{tracing};
 ghost use Rattle.evaluator.specs.Promises.{Differ-only-at, has-probe};
 ghost use Rattle.evaluator.specs.Outcomes.{mapped};
 ghost use Rattle.evaluator.specs.Rates.{rate-of, reading-of, Within, shown-number};
-use arithmetic::Arithmetic;
-use arithmetic::plain::Plain;
-use arithmetic::plain::PlainArithmetic;
-use arithmetic::traced::Traced;
-use arithmetic::tracing::Tracing;
-use arithmetic::tracing::TracingArithmetic;
 use crate::evaluation::ALL_PLACES;
 use crate::evaluation::evaluate;
 use crate::limits::Limits;
 use crate::refusal::Refusal;
 use crate::scope::FirstPlaces;
 use crate::scope::FirstPlacesScope;
+use arithmetic::Arithmetic;
+use arithmetic::plain::Plain;
+use arithmetic::plain::PlainArithmetic;
+use arithmetic::traced::Traced;
+use arithmetic::tracing::Tracing;
+use arithmetic::tracing::TracingArithmetic;
 
 /// The most variables of a program, and so the most readings.
 pub const MOST_VARIABLES: usize = 32;
@@ -40,7 +40,13 @@ fn place_readings<A: Arithmetic>(arithmetic: &A, readings: &[i32], memory: &mut 
 }
 
 // The value of an expression in which variable k has the k-th reading, limited; worked out in a memory that is lent for it.
-fn rate_within<A: Arithmetic>(arithmetic: &A, limits: Limits, code: &[u8], readings: &[i32], memory: &mut [A::Value]) -> Result<A::Value, Refusal>
+fn rate_within<A: Arithmetic>(
+    arithmetic: &A,
+    limits: Limits,
+    code: &[u8],
+    readings: &[i32],
+    memory: &mut [A::Value],
+) -> Result<A::Value, Refusal>
     requires { ⌜ length (now memory) ≡ 1040 ⌝ }
     ensures answer { λ r. ⌜ r ≡ rate-of (A·Arithmetic .meaning (now (arithmetic .entry))) (limits .low) (limits .high) (now (code .entry)) (now (readings .entry)) ⌝ }
     ensures within { λ r. ⌜ made r (Within (A·Arithmetic .meaning (now (arithmetic .entry))) (limits .low) (limits .high)) ⌝ }

@@ -27,6 +27,10 @@ pub impl Scope for FirstPlaces as FirstPlacesScope {
 
     fn place(&self, variable: u8) -> Option<usize> {
         let place = variable as usize;
-        if place < self.count { Some(place) } else { None }
+        if place < self.count {
+            Some(place)
+        } else {
+            None
+        }
     }
 }

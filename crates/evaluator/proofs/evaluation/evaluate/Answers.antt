@@ -28,10 +28,11 @@ returns-in-Break-run-commands g c =
     let before = ran .before ∙ made .before in
     let lender = ran .lender ∙ made .lender in
     let kept = λ (x : List (g .A·Value .Denot)). variables-kept m x (c .run-commands .last .stack) long before in
-    record
-      { answer = p .1 ∙ ap Err (p .2) ∙ answer-is M (g .S·Scope .places (c .args .scope .now)) m (before-base (c .new-stack .result)) bs (Err (c .in-Break-run-commands .field-0 .0)) long some few (made .before) (ran .answer)
-      ; variables = kept _ (c .in-Break-run-commands .memory·1·own .given .1 .1 (sym lender))
-      ; refused = λ no-length. absurd (no-length long) }
+    record {
+      answer = p .1 ∙ ap Err (p .2) ∙ answer-is M (g .S·Scope .places (c .args .scope .now)) m (before-base (c .new-stack .result)) bs (Err (c .in-Break-run-commands .field-0 .0)) long some few (made .before) (ran .answer);
+      variables = kept _ (c .in-Break-run-commands .memory·1·own .given .1 .1 (sym lender));
+      refused = λ no-length. absurd (no-length long);
+    }
 
 pub returns : need.returns
 returns g c =
@@ -48,7 +49,8 @@ returns g c =
     let before = left .before ∙ ran .before ∙ made .before in
     let lender = left .lender ∙ ran .lender ∙ made .lender in
     let kept = λ (x : List (g .A·Value .Denot)). variables-kept m x (c .remaining .last .stack) long before in
-    record
-      { answer = left .answer ∙ answer-is M (g .S·Scope .places (c .args .scope .now)) m (before-base (c .new-stack .result)) bs (Ok (stacked (c .run-commands .last .stack))) long some few (made .before) (ran .answer)
-      ; variables = kept _ (c .memory-2·1 .given .1 .1 (sym lender))
-      ; refused = λ no-length. absurd (no-length long) }
+    record {
+      answer = left .answer ∙ answer-is M (g .S·Scope .places (c .args .scope .now)) m (before-base (c .new-stack .result)) bs (Ok (stacked (c .run-commands .last .stack))) long some few (made .before) (ran .answer);
+      variables = kept _ (c .memory-2·1 .given .1 .1 (sym lender));
+      refused = λ no-length. absurd (no-length long);
+    }

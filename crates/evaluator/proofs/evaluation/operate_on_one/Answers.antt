@@ -14,9 +14,10 @@ returns g c =
     let popped = c .in-Some .ensures tt in
     let pushed = c .stack-value .ensures in
     let full : length (stacked s) ≤ 16 = omega (arith, within-room s, c .pre) in
-    record
-      { answer = one-operated (c .args .place) (λ x. M .operated (inverse x)) (stacked s) (stacked (c .pop .last .self)) (c .in-Some .value) (c .inverted .result) _ full
-          (popped .answer) (popped .stacked) (c .inverted .ensures) (pushed .answer)
-      ; room = pushed .room ∙ popped .room
-      ; before = pushed .before ∙ popped .before
-      ; lender = pushed .lender ∙ popped .lender }
+    record {
+      answer = one-operated (c .args .place) (λ x. M .operated (inverse x)) (stacked s) (stacked (c .pop .last .self)) (c .in-Some .value) (c .inverted .result) _ full
+          (popped .answer) (popped .stacked) (c .inverted .ensures) (pushed .answer);
+      room = pushed .room ∙ popped .room;
+      before = pushed .before ∙ popped .before;
+      lender = pushed .lender ∙ popped .lender;
+    }

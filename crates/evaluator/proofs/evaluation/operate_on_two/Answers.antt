@@ -15,10 +15,11 @@ returns g c =
     let first = c .in-Some-pop .ensures tt in
     let pushed = c .stack-value .ensures in
     let full : length (stacked s) ≤ 16 = omega (arith, within-room s, c .pre) in
-    record
-      { answer = two-operated (c .args .place) (λ x y. M .operated (two (c .args .operator) x y)) (stacked s) (stacked (c .pop .last .self)) (stacked (c .pop-2 .last .self))
+    record {
+      answer = two-operated (c .args .place) (λ x y. M .operated (two (c .args .operator) x y)) (stacked s) (stacked (c .pop .last .self)) (stacked (c .pop-2 .last .self))
           (c .in-Some-pop .first) (c .in-Some .second) (c .binary .result) _ full
-          (second .answer) (second .stacked) (first .answer) (first .stacked) (c .binary .ensures) (pushed .answer)
-      ; room = pushed .room ∙ first .room ∙ second .room
-      ; before = pushed .before ∙ first .before ∙ second .before
-      ; lender = pushed .lender ∙ first .lender ∙ second .lender }
+          (second .answer) (second .stacked) (first .answer) (first .stacked) (c .binary .ensures) (pushed .answer);
+      room = pushed .room ∙ first .room ∙ second .room;
+      before = pushed .before ∙ first .before ∙ second .before;
+      lender = pushed .lender ∙ first .lender ∙ second .lender;
+    }

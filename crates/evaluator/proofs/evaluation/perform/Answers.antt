@@ -24,12 +24,13 @@ returns-in-Break-stack-variable g c =
     let p = err-from-errBy (c .from-residual-in-Break-stack-variable .result) (c .from-residual-in-Break-stack-variable .ensures .1) in
     let full = eqb-false _ _ (sym (c .is-empty .ensures) ∙ c .if-not-is-empty .taken) in
     let some : 1 ≤ length (from 1 bs) = omega arith in
-    record
-      { answer = taken-break M look (c .args .place) (next-command bs) _ _ (stacked s) _ _ _ _ (p .1) (p .2) (variable-first bs (c .in-65 .is) some) (e .answer)
-      ; shorter = made-from-err _ _ (c .from-residual-in-Break-stack-variable .ensures .0)
-      ; room = e .room
-      ; before = e .before
-      ; lender = e .lender }
+    record {
+      answer = taken-break M look (c .args .place) (next-command bs) _ _ (stacked s) _ _ _ _ (p .1) (p .2) (variable-first bs (c .in-65 .is) some) (e .answer);
+      shorter = made-from-err _ _ (c .from-residual-in-Break-stack-variable .ensures .0);
+      room = e .room;
+      before = e .before;
+      lender = e .lender;
+    }
 
 pub returns-in-rest-from-byte : need.returns-in-rest-from-byte
 returns-in-rest-from-byte g c = absurd (operators-cover _ (omega arith) (omega arith) (c .in-rest-from-byte .ensures tt))
@@ -46,13 +47,14 @@ returns-in-Continue-stack-value g c =
     let fits : SFits w32 (c .from-le-bytes-number .result) = search needs in
     let made : _≡_ {A = g .A·Value .Denot} (c .constant .result) (M .constant (toZ w32 (ofZ w32 (c .from-le-bytes-number .result)))) = c .constant .ensures in
     let value = made ∙ ap (M .constant) (toZ-ofZ w32 (c .from-le-bytes-number .result) fits ∙ number) in
-    record
-      { answer = taken-ok M look (c .args .place) (next-command bs) _ _ (stacked s) (stacked (c .stack-value .last .stack)) (constant-first bs (c .in-64 .is) (c .if-rest-ge4 .taken))
-          (e .answer ∙ ap (λ x. stack-one (c .args .place) x (stacked s)) value)
-      ; shorter = shorter-more bs 4 0x40 (c .in-64 .is) (omega arith)
-      ; room = e .room
-      ; before = e .before
-      ; lender = e .lender }
+    record {
+      answer = taken-ok M look (c .args .place) (next-command bs) _ _ (stacked s) (stacked (c .stack-value .last .stack)) (constant-first bs (c .in-64 .is) (c .if-rest-ge4 .taken))
+          (e .answer ∙ ap (λ x. stack-one (c .args .place) x (stacked s)) value);
+      shorter = shorter-more bs 4 0x40 (c .in-64 .is) (omega arith);
+      room = e .room;
+      before = e .before;
+      lender = e .lender;
+    }
 
 pub returns-in-Continue-stack-variable : need.returns-in-Continue-stack-variable
 returns-in-Continue-stack-variable g c =
@@ -63,12 +65,13 @@ returns-in-Continue-stack-variable g c =
     let e = c .in-Continue-stack-variable .ensures tt in
     let full = eqb-false _ _ (sym (c .is-empty .ensures) ∙ c .if-not-is-empty .taken) in
     let some : 1 ≤ length (from 1 bs) = omega arith in
-    record
-      { answer = taken-ok M look (c .args .place) (next-command bs) _ _ (stacked s) (stacked (c .stack-variable .last .stack)) (variable-first bs (c .in-65 .is) some) (e .answer)
-      ; shorter = shorter-more bs 1 0x41 (c .in-65 .is) (omega arith)
-      ; room = e .room
-      ; before = e .before
-      ; lender = e .lender }
+    record {
+      answer = taken-ok M look (c .args .place) (next-command bs) _ _ (stacked s) (stacked (c .stack-variable .last .stack)) (variable-first bs (c .in-65 .is) some) (e .answer);
+      shorter = shorter-more bs 1 0x41 (c .in-65 .is) (omega arith);
+      room = e .room;
+      before = e .before;
+      lender = e .lender;
+    }
 
 pub returns-in-Continue-operate-on-one : need.returns-in-Continue-operate-on-one
 returns-in-Continue-operate-on-one g c =
@@ -77,12 +80,13 @@ returns-in-Continue-operate-on-one g c =
     let bs = c .args .code .now in
     let look : ℕ → _ = λ v. value-at (before-base s) (g .S·Scope .places (c .args .scope .now) v) in
     let e = c .in-Continue-operate-on-one .ensures tt in
-    record
-      { answer = taken-ok M look (c .args .place) (next-command bs) inversion (from 1 bs) (stacked s) (stacked (c .operate-on-one .last .stack)) (inversion-first bs (c .in-73 .is)) (e .answer)
-      ; shorter = shorter-one bs 0x49 (c .in-73 .is) (omega arith)
-      ; room = e .room
-      ; before = e .before
-      ; lender = e .lender }
+    record {
+      answer = taken-ok M look (c .args .place) (next-command bs) inversion (from 1 bs) (stacked s) (stacked (c .operate-on-one .last .stack)) (inversion-first bs (c .in-73 .is)) (e .answer);
+      shorter = shorter-one bs 0x49 (c .in-73 .is) (omega arith);
+      room = e .room;
+      before = e .before;
+      lender = e .lender;
+    }
 
 pub returns-in-Continue-operate-on-two : need.returns-in-Continue-operate-on-two
 returns-in-Continue-operate-on-two g c =
@@ -91,9 +95,10 @@ returns-in-Continue-operate-on-two g c =
     let bs = c .args .code .now in
     let look : ℕ → _ = λ v. value-at (before-base s) (g .S·Scope .places (c .args .scope .now) v) in
     let e = c .in-Continue-operate-on-two .ensures tt in
-    record
-      { answer = taken-ok M look (c .args .place) (next-command bs) (operator (c .in-Some .operator)) (from 1 bs) (stacked s) (stacked (c .operate-on-two .last .stack)) (operator-first bs (c .in-Some .operator) (c .in-Some .ensures tt)) (e .answer)
-      ; shorter = shorter-one bs _ (sym (c .in-Some .ensures tt)) (operator-positive (c .in-Some .operator))
-      ; room = e .room
-      ; before = e .before
-      ; lender = e .lender }
+    record {
+      answer = taken-ok M look (c .args .place) (next-command bs) (operator (c .in-Some .operator)) (from 1 bs) (stacked s) (stacked (c .operate-on-two .last .stack)) (operator-first bs (c .in-Some .operator) (c .in-Some .ensures tt)) (e .answer);
+      shorter = shorter-one bs _ (sym (c .in-Some .ensures tt)) (operator-positive (c .in-Some .operator));
+      room = e .room;
+      before = e .before;
+      lender = e .lender;
+    }

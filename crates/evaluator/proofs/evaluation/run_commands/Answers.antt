@@ -30,10 +30,13 @@ loop-rest-again g c =
     let bs = c .args .code .now in
     let rest = c .loop-rest .rest .now in
     let full = eqb-false _ _ (sym (c .is-empty .ensures) ∙ c .loop-rest-test .taken) in
-    let some : 0 < length rest = omega arith in
-    (e .room ∙ inv .0, e .before ∙ inv .1, e .lender ∙ inv .2,
+    let some : 0 < length rest = omega arith in (
+      e .room ∙ inv .0,
+      e .before ∙ inv .1,
+      e .lender ∙ inv .2,
       next-turn M (at (before-base (c .args .stack .now))) bs rest (c .in-Continue-rest .rest .now) (stacked (c .loop-rest .stack)) (stacked (c .perform .last .stack)) (inv .3) some (e .shorter)
-        (e .answer ∙ ap (λ b. taken M (at b) (length bs - length rest) (next-command rest) (stacked (c .loop-rest .stack))) (inv .1)))
+          (e .answer ∙ ap (λ b. taken M (at b) (length bs - length rest) (next-command rest) (stacked (c .loop-rest .stack))) (inv .1)),
+    )
 
 pub returns-in-Break-rest : need.returns-in-Break-rest
 returns-in-Break-rest g c =
@@ -47,12 +50,13 @@ returns-in-Break-rest g c =
     let some : 0 < length rest = omega arith in
     let p = err-from-errBy (c .from-residual .result) (c .from-residual .ensures .1) in
     let left = stacked (c .perform .last .stack) in
-    record
-      { answer = ap (leaving left) (p .1 ∙ ap Err (p .2))
+    record {
+      answer = ap (leaving left) (p .1 ∙ ap Err (p .2))
           ∙ sym (refused-turn M (at (before-base (c .args .stack .now))) bs rest (stacked (c .loop-rest .stack)) _ (inv .3) some
-            (e .answer ∙ ap (λ b. taken M (at b) (length bs - length rest) (next-command rest) (stacked (c .loop-rest .stack))) (inv .1)))
-      ; before = e .before ∙ inv .1
-      ; lender = e .lender ∙ inv .2 }
+          (e .answer ∙ ap (λ b. taken M (at b) (length bs - length rest) (next-command rest) (stacked (c .loop-rest .stack))) (inv .1)));
+      before = e .before ∙ inv .1;
+      lender = e .lender ∙ inv .2;
+    }
 
 pub returns : need.returns
 returns g c =
@@ -60,7 +64,8 @@ returns g c =
     let look : ℕ → _ = λ v. value-at (before-base (c .args .stack .now)) (g .S·Scope .places (c .args .scope .now) v) in
     let inv = c .loop-rest .inv in
     let none = eqb-true _ _ (sym (c .is-empty .ensures) ∙ c .loop-rest-test .left) in
-    record
-      { answer = sym (last-turn M look (c .args .code .now) (c .loop-rest .rest .now) (stacked (c .loop-rest .stack)) (inv .3) none)
-      ; before = inv .1
-      ; lender = inv .2 }
+    record {
+      answer = sym (last-turn M look (c .args .code .now) (c .loop-rest .rest .now) (stacked (c .loop-rest .stack)) (inv .3) none);
+      before = inv .1;
+      lender = inv .2;
+    }

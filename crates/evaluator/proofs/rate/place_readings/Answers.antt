@@ -18,4 +18,4 @@ loop-i-again g c =
     let fits : SFits w32 (getD rs i (pos 0)) = search needs in
     let long : i < length (c .loop-i .memory) = omega arith in
     one-reading-more M rs (c .loop-i .memory) i (c .reading .result) long (c .loop-i-test .taken)
-      (c .reading .ensures ∙ ap (M .reading i) (toZ-ofZ w32 (getD rs i (pos 0)) fits)) (c .loop-i .inv)
+    (c .reading .ensures ∙ ap (M .reading i) (toZ-ofZ w32 (getD rs i (pos 0)) fits)) (c .loop-i .inv)

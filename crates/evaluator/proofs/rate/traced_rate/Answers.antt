@@ -11,8 +11,9 @@ returns c =
     let bs = c .args .code .now in
     let rs = c .args .readings .now in
     let is = c .rate-within .ensures .answer in
-    record
-      { answer = is
-      ; within = c .rate-within .ensures .within
-      ; number = ap (mapped shown-number) is ∙ tracing-keeps-the-rate low high bs rs
-      ; probes = λ i others differ x ok absent. absent-probes-did-not-enter low high bs rs others i differ x (sym is ∙ ok) absent }
+    record {
+      answer = is;
+      within = c .rate-within .ensures .within;
+      number = ap (mapped shown-number) is ∙ tracing-keeps-the-rate low high bs rs;
+      probes = λ i others differ x ok absent. absent-probes-did-not-enter low high bs rs others i differ x (sym is ∙ ok) absent;
+    }

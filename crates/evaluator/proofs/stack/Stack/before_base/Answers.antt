@@ -22,4 +22,4 @@ returns g c =
     let x = c .at .result in
     let e = length-take-le (s .base) (now (s .places)) (omega arith) in
     sym (nth-read (take (s .base) (now (s .places))) (s .base) (c .args .place) x (sym e) (omega arith)
-      (c .at .ensures ∙ sym (getD-take (s .base) (now (s .places)) (c .args .place) x (omega arith))))
+    (c .at .ensures ∙ sym (getD-take (s .base) (now (s .places)) (c .args .place) x (omega arith))))

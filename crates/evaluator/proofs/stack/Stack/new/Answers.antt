@@ -8,9 +8,10 @@ use Rattle.evaluator.proofs.stack.Stack.new.Needs as need
 pub returns : need.returns
 returns g c =
     let e = c .min .ensures in
-    record
-      { empty = refl
-      ; room = omega arith
-      ; before = ap (λ n. take n (c .args .places .now)) e ∙ take-min (c .args .places .now) (c .args .base)
-      ; memory = refl
-      ; lender = refl }
+    record {
+      empty = refl;
+      room = omega arith;
+      before = ap (λ n. take n (c .args .places .now)) e ∙ take-min (c .args .places .now) (c .args .base);
+      memory = refl;
+      lender = refl;
+    }

@@ -11,10 +11,11 @@ pub returns : need.returns
 returns g c =
     let s = c .args .self .now in
     let e = last-first (now (s .places)) (s .base) (s .depth) (c .at-value .result) (c .if-self-eq0 .left) (s .fits) (c .at-value .ensures) in
-    record
-      { answer = sym (ap popped-value e)
-      ; stacked = sym (ap popped-rest e)
-      ; memory = refl
-      ; room = refl
-      ; before = refl
-      ; lender = refl }
+    record {
+      answer = sym (ap popped-value e);
+      stacked = sym (ap popped-rest e);
+      memory = refl;
+      room = refl;
+      before = refl;
+      lender = refl;
+    }

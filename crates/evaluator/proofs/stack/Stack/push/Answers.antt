@@ -23,10 +23,11 @@ returns g c =
     let ps = now (s .places) in
     let f = s .fits in
     let e = depth-is ps (s .base) (s .depth) f in
-    record
-      { answer = sym (lt-ltb _ _ (omega arith))
-      ; stacked = one-more ps (s .base) (s .depth) (c .args .value) (omega arith)
-      ; memory = refl
-      ; room = ap (λ n. n - s .base) (length-set ps (s .base + s .depth) (c .args .value))
-      ; before = take-set-le (s .base) ps (s .base + s .depth) (c .args .value) (omega arith)
-      ; lender = refl }
+    record {
+      answer = sym (lt-ltb _ _ (omega arith));
+      stacked = one-more ps (s .base) (s .depth) (c .args .value) (omega arith);
+      memory = refl;
+      room = ap (λ n. n - s .base) (length-set ps (s .base + s .depth) (c .args .value));
+      before = take-set-le (s .base) ps (s .base + s .depth) (c .args .value) (omega arith);
+      lender = refl;
+    }

@@ -2,7 +2,6 @@ pub mod Alike
 pub mod Performing
 pub mod Reading
 pub mod Sampling
-pub mod Stacking
 pub mod Taking
 pub mod Tracing
 pub mod Turns

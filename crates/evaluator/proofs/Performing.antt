@@ -13,11 +13,11 @@ use Rattle.std.specs.declared.result.Result.{Result}
 use Rattle.std.specs.declared.result.Result.the-variants.{Ok, Err}
 use Rattle.std.proofs.shelf.Tests.{lt-ltb}
 use Rattle.evaluator.specs.Evaluating.{stack-one, operate-one, operate-two}
-use Rattle.evaluator.specs.Stacks.{stacked, room, popped-value, popped-rest}
+use Rattle.stack.specs.Stacks.{stacked, room, popped-value, popped-rest}
 use Rattle.evaluator.specs.declared.refusal.Refusal.{Refusal}
 use Rattle.evaluator.specs.declared.refusal.Refusal.the-variants.{BadExpression}
-use Rattle.evaluator.specs.declared.stack.Stack.{Stack}
-use Rattle.evaluator.proofs.Stacking.{depth-is}
+use Rattle.stack.specs.declared.Stack.{Stack}
+use Rattle.stack.proofs.Stacking.{depth-is}
 
 module _ {V : Type 0} where
   -- No more is stacked than there is room for.

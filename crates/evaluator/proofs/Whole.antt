@@ -16,10 +16,10 @@ use Rattle.arithmetic.specs.Meaning.{Meaning}
 use Rattle.evaluator.specs.Commands.{commands-of}
 use Rattle.evaluator.specs.Evaluating.{evaluated, evaluated-in, run, only, value-at}
 use Rattle.evaluator.specs.Outcomes.{and-then}
-use Rattle.evaluator.specs.Stacks.{before-base}
+use Rattle.stack.specs.Stacks.{before-base}
 use Rattle.evaluator.specs.declared.refusal.Refusal.{Refusal}
 use Rattle.evaluator.specs.declared.refusal.Refusal.the-variants.{BadExpression, Memory}
-use Rattle.evaluator.specs.declared.stack.Stack.{Stack}
+use Rattle.stack.specs.declared.Stack.{Stack}
 
 module _ {V : Type 0} where
   -- Where the places before the base are those of the memory, the variable places are as they were.

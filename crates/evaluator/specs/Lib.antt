@@ -5,4 +5,3 @@ pub mod Promises
 pub mod Rates
 pub mod Refusals
 pub mod Scopes
-pub mod Stacks

@@ -9,10 +9,10 @@ ghost use Rattle.arithmetic.specs.Meaning.{two, inverse};
 ghost use Rattle.evaluator.specs.Commands.{next-command, commands-of};
 ghost use Rattle.evaluator.specs.Evaluating.{stack-one, stack-found, operate-two, operate-one, only, value-at, taken, run, evaluated-in};
 ghost use Rattle.evaluator.specs.Outcomes.{leaving, leaving-with};
-ghost use Rattle.evaluator.specs.Stacks.{stacked, room, before-base};
+ghost use Rattle.stack.specs.Stacks.{stacked, room, before-base};
 use crate::refusal::Refusal;
 use crate::scope::Scope;
-use crate::stack::Stack;
+use stack::Stack;
 use arithmetic::Arithmetic;
 use arithmetic::operators::Operator;
 

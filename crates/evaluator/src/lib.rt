@@ -5,6 +5,5 @@ pub mod promises;
 pub mod rate;
 pub mod refusal;
 pub mod scope;
-pub mod stack;
 #[cfg(test)]
 mod tests;

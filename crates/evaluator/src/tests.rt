@@ -1,4 +1,4 @@
-//! Expressions good and bad, from tables; a full and an empty stack; memories of other lengths.
+//! Expressions good and bad, from tables; memories of other lengths.
 use crate::evaluation::evaluate;
 use crate::limits::Limits;
 use crate::rate::plain_rate;
@@ -8,8 +8,7 @@ use crate::refusal::RefusalDebug;
 use crate::refusal::RefusalPartialEq;
 use crate::scope::FirstPlaces;
 use crate::scope::FirstPlacesScope;
-use crate::stack::Stack;
-use crate::stack::working::FullDebug;
+
 use arithmetic::plain::Plain;
 use arithmetic::plain::PlainArithmetic;
 use arithmetic::traced::Traced;
@@ -343,20 +342,4 @@ fn numbers_of_refusals() -> Result<(), Fail> {
     check(Refusal::WrongVariable(3).number() == 7 && Refusal::WrongVariable(3).place() == 3)?;
     check(Refusal::Memory.number() == 11 && Refusal::Memory.place() == 0)?;
     check(Refusal::Readings.number() == 15 && Refusal::Readings.place() == 0)
-}
-
-#[test]
-fn full_and_empty_stack() -> Result<(), Fail> {
-    let mut places = [10, 20, 30, 40];
-    let mut stack = Stack::new(&mut places, 2);
-    check_eq(stack.pop(), None)?;
-    stack.push(1)?;
-    stack.push(2)?;
-    check(stack.push(3).is_err())?;
-    check(stack.depth() == 2)?;
-    check_eq(stack.before_base(1), Some(20))?;
-    check_eq(stack.before_base(2), None)?;
-    check_eq(stack.pop(), Some(2))?;
-    check_eq(stack.pop(), Some(1))?;
-    check_eq(stack.pop(), None)
 }

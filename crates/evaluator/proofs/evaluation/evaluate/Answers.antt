@@ -9,7 +9,7 @@ use Rattle.std.proofs.shelf.Tests.{eqb-false}
 use Rattle.std.specs.declared.result.Result.the-variants.{Ok, Err}
 use Rattle.evaluator.specs.Evaluating.{only}
 use Rattle.evaluator.specs.Outcomes.{and-then}
-use Rattle.evaluator.specs.Stacks.{stacked, before-base}
+use Rattle.stack.specs.Stacks.{stacked, before-base}
 use Rattle.evaluator.proofs.Whole.{variables-kept, answer-is}
 use Rattle.evaluator.proofs.evaluation.evaluate.Needs as need
 

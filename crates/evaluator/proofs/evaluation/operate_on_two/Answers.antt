@@ -3,7 +3,7 @@ use mathlib.Core.Path.{_≡_, sym, _∙_}
 use native.Mathlib.Omega.{arith}
 use lib.ListN.{length}
 use Rattle.arithmetic.specs.Meaning.{two}
-use Rattle.evaluator.specs.Stacks.{stacked}
+use Rattle.stack.specs.Stacks.{stacked}
 use Rattle.evaluator.proofs.Performing.{within-room, two-operated}
 use Rattle.evaluator.proofs.evaluation.operate_on_two.Needs as need
 

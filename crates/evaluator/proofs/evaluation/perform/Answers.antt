@@ -10,7 +10,7 @@ use Rattle.std.proofs.shelf.Signed.{toZ-ofZ}
 use Rattle.std.proofs.shelf.Tests.{eqb-false}
 use Rattle.evaluator.specs.Commands.{Command, constant, variable, operator, inversion, signed-of, next-command}
 use Rattle.evaluator.specs.Evaluating.{value-at, stack-one}
-use Rattle.evaluator.specs.Stacks.{stacked, before-base}
+use Rattle.stack.specs.Stacks.{stacked, before-base}
 use Rattle.evaluator.proofs.Taking.{from, constant-first, variable-first, inversion-first, operator-first, operators-cover, taken-ok, taken-break, shorter-one, shorter-more, operator-positive}
 use Rattle.evaluator.proofs.evaluation.perform.Needs as need
 

@@ -10,7 +10,7 @@ use Rattle.std.specs.declared.result.Result.the-variants.{Ok, Err}
 use Rattle.evaluator.specs.Commands.{next-command}
 use Rattle.evaluator.specs.Evaluating.{value-at, taken}
 use Rattle.evaluator.specs.Outcomes.{leaving}
-use Rattle.evaluator.specs.Stacks.{stacked, before-base}
+use Rattle.stack.specs.Stacks.{stacked, before-base}
 use Rattle.evaluator.proofs.Turns.{Turn, first-turn, next-turn, refused-turn, last-turn}
 use Rattle.evaluator.proofs.evaluation.run_commands.Needs as need
 

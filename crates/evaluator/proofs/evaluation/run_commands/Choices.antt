@@ -2,7 +2,7 @@ use mathlib.Core.Path.{_≡_}
 use denote.Ref.{name}
 use lib.ListN.{length}
 use Rattle.evaluator.specs.Evaluating.{value-at}
-use Rattle.evaluator.specs.Stacks.{stacked, room, before-base}
+use Rattle.stack.specs.Stacks.{stacked, room, before-base}
 use Rattle.evaluator.proofs.Turns.{Turn}
 use Rattle.evaluator.proofs.evaluation.run_commands.Given as given
 

@@ -12,9 +12,9 @@ ghost use Rattle.evaluator.specs.Outcomes.{leaving, leaving-with};
 ghost use Rattle.stack.specs.Stacks.{stacked, room, before-base};
 use crate::refusal::Refusal;
 use crate::scope::Scope;
-use stack::Stack;
 use arithmetic::Arithmetic;
 use arithmetic::operators::Operator;
+use stack::Stack;
 
 /// The places of variables in the value memory; the work places come after them.
 pub const VARIABLE_PLACES: usize = 1024;

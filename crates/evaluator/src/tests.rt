@@ -8,7 +8,6 @@ use crate::refusal::RefusalDebug;
 use crate::refusal::RefusalPartialEq;
 use crate::scope::FirstPlaces;
 use crate::scope::FirstPlacesScope;
-
 use arithmetic::plain::Plain;
 use arithmetic::plain::PlainArithmetic;
 use arithmetic::traced::Traced;

@@ -4,7 +4,6 @@ ghost use denote.Ref.{now};
 ghost use lib.ListN.{length};
 
 pub mod methods;
-
 #[cfg(test)]
 mod tests;
 

@@ -9,10 +9,11 @@ use Rattle.std.specs.declared.option.Option.the-variants.{Some}
 use Rattle.std.specs.declared.result.Result.the-variants.{Ok}
 use Rattle.std.specs.shelf.Lists.{All}
 use Rattle.arithmetic.specs.Meaning.{Meaning}
-use Rattle.rules.specs.Calls.{Call, step-thread, close, finish, Answer, accepted, steps, Machine, empty, running, perform}
+use Rattle.rules.specs.Calls.{Call, step-thread, close, finish, Answer, accepted, steps, Machine, empty, running, rates-of, perform}
 use Rattle.rules.specs.Encoding.{encode}
 use Rattle.rules.specs.Lengths.{tick-length}
 use Rattle.rules.specs.Reading.{read}
+use Rattle.rules.specs.Report.{sum-of}
 use Rattle.rules.specs.Runs.{Reference, nothing-yet, having, after-calls, was-accepted}
 use Rattle.rules.specs.Stepping.{ready?, step}
 use Rattle.rules.specs.Text.{Program}
@@ -35,16 +36,26 @@ module _ {V : Type 0} where
   Agrees (running n bs p σ true c) r = Unit {0}
   Agrees (running n bs p σ false c) r = r ≡ having p σ c
 
-  -- The count that a closing or finishing answered is the left-to-right run's, and at most the tick length of the loaded program.
+  -- The count that a closing or finishing answered is the left-to-right run's, and at most the tick length of the program that is loaded.
   abbrev pub Counts : ℕ → Machine V → Reference V → Type 0
-  Counts k m nothing-yet = ⊥
-  Counts k m (having p σ c) = (k ≡ c) × (k ≤ tick-length p)
+  Counts k (empty n) r = ⊥
+  Counts k (running n bs p σ b c) nothing-yet = ⊥
+  Counts k (running n bs p σ b c) (having q τ d) = (k ≡ d) × (k ≤ tick-length p)
 
+  -- A tick is open.
   abbrev pub Open : Machine V → Type 0
   Open (empty n) = ⊥
   Open (running n bs p σ b c) = b ≡ true
 
 module _ {V : Type 0} (M : Meaning V) where
+  -- With no tick open, a report gives the rates of the left-to-right run and their sum.
+  abbrev pub Reports-agree : Machine V → Reference V → Type 0
+  Reports-agree (empty n) r = Unit {0}
+  Reports-agree (running n bs p σ true c) r = Unit {0}
+  Reports-agree (running n bs p σ false c) nothing-yet = ⊥
+  Reports-agree (running n bs p σ false c) (having q τ d) = (rates-of M p σ ≡ rates-of M q τ) × (sum-of (rates-of M p σ) ≡ sum-of (rates-of M q τ))
+
+  -- A call would be accepted.
   abbrev pub Accepts : Machine V → Call → Type 0
   Accepts m c = was-accepted (perform M c m .0) ≡ true
 
@@ -56,6 +67,7 @@ module _ {V : Type 0} (M : Meaning V) where
   -- For any list of calls from a new machine over a value memory of any length and content.
   pub record Order-leaves-no-trace-in (places : ℕ) (cs : List Call) : Type 0 where
     pub same : Agrees (after-calls M places cs .0) (after-calls M places cs .1)
+    pub reports : Reports-agree (after-calls M places cs .0) (after-calls M places cs .1)
     pub closing-counts : (k : ℕ) → perform M close (after-calls M places cs .0) .0 ≡ steps k → Counts k (after-calls M places cs .0) (after-calls M places cs .1)
     pub finishing-counts : (k : ℕ) → perform M finish (after-calls M places cs .0) .0 ≡ steps k → Counts k (after-calls M places cs .0) (after-calls M places cs .1)
     pub goes-on : Open (after-calls M places cs .0) → Step-or-close (after-calls M places cs .0)

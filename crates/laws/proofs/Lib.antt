@@ -1,0 +1,12 @@
+pub mod Accepted
+pub mod Bound
+pub mod Confluence
+pub mod Limits
+pub mod Loading
+pub mod Opening
+pub mod Order
+pub mod Progress
+pub mod Rates
+pub mod Steps
+pub mod Trace
+pub mod Whole

@@ -1,0 +1,5 @@
+pub mod Counting
+pub mod Finishing
+pub mod Joins
+pub mod Limits
+pub mod Orders

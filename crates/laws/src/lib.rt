@@ -1,0 +1,2 @@
+//! Laws over ticks and runs: the order of steps leaves no trace.
+pub mod promises;

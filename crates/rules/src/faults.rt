@@ -1,5 +1,6 @@
 //! Why a program is not accepted: faults of reading, of a statement, of the program.
 ghost use mathlib.Core.Path.{_≡_};
+ghost use Rattle.rules.specs.declared.faults.StatementFault.the-variants.{Reading};
 ghost use Rattle.rules.specs.Faults.{reading-number, reading-place, statement-number, statement-place, load-number, load-place, load-layer, load-site};
 
 /// The layer that found a fault.
@@ -43,6 +44,14 @@ pub enum LoadFault {
     BadDeclaration(usize),
     Statement(StatementFault, Site),
     TickTooLong,
+}
+
+pub impl From<ReadingFault> for StatementFault as StatementFromReading {
+    ghost converts = { λ f r. r ≡ Reading f };
+
+    fn from(fault: ReadingFault) -> StatementFault {
+        StatementFault::Reading(fault)
+    }
 }
 
 impl ReadingFault {

@@ -1,0 +1,11 @@
+pub mod Results
+pub mod Numbers
+pub mod Expressions
+pub mod Declarations
+pub mod Parts
+pub mod Shapes
+pub mod Written
+pub mod Read
+pub mod Pauses
+pub mod Whole
+pub mod Writing

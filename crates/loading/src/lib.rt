@@ -1,0 +1,2 @@
+//! Loading accepts exactly the valid programs.
+pub mod promises;

@@ -64,7 +64,7 @@ module _ {V : Type 0} (M : Meaning V) where
     pub one : ((t : ℕ) × Accepts m (step-thread t)) ⊎ Accepts m close
     pub never-both : (t : ℕ) → Accepts m (step-thread t) → Accepts m close → ⊥
 
-  -- For any list of calls from a new machine over a value memory of any length and content.
+  -- For any list of calls from a new machine over a value memory of any length. Its content is not part of a machine here.
   pub record Order-leaves-no-trace-in (places : ℕ) (cs : List Call) : Type 0 where
     pub same : Agrees (after-calls M places cs .0) (after-calls M places cs .1)
     pub reports : Reports-agree (after-calls M places cs .0) (after-calls M places cs .1)

@@ -3,7 +3,7 @@ use Rattle.std.proofs.Common.{◌≡◌, ℕ, ◌-◌, ◌<◌, ◌≤◌, Bool,
 use lib.Utf8.{encode}
 use Rattle.std.proofs.lemmas.List.{take_all}
 use Rattle.std.proofs.lemmas.Slice.Eq.{bytes_eq-Decides}
-use Rattle.std.proofs.lemmas.Bool.{cond-false, eq-eqb, eqb_true}
+use Rattle.std.proofs.lemmas.Bool.{cond-false, eq-eqb, eqb-true}
 use Rattle.std.specs.Str.{bytes_eq}
 use Rattle.console.specs.Lines.{Said, choice_named, choice_in, only_word, command_line, comment}
 use Rattle.console.specs.Splitting.{texts}
@@ -73,7 +73,7 @@ comment_first w e = eq-eqb (get_or w 0 0) 35 e
 pub no_comment : (w : List ℕ) → ((rest : List ℕ) → w ≡ encode 35 ++ rest → ⊥) → comment w ≡ false
 unfolding encode
 no_comment [] never = refl
-no_comment (b ∷ w) never = false_unless (comment (b ∷ w)) (λ e. never w (ap (λ x. x ∷ w) (eqb_true b 35 e)))
+no_comment (b ∷ w) never = false_unless (comment (b ∷ w)) (λ e. never w (ap (λ x. x ∷ w) (eqb-true b 35 e)))
 
 pub two_names : (ws : List (Bor (List ℕ))) → 2 ≤ length ws → choice_in (texts ws) ≡ Err ExtraWord
 two_names [] h = absurd (omega arith)

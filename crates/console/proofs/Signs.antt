@@ -1,7 +1,7 @@
 -- What `parse` reads is what a decimal word stands for.
 use Rattle.std.proofs.Common.{◌≡◌, ℕ, ◌^◌, ◌<◌, ◌≤◌, Bool, true, false, cond, ◌&&◌, eqb, ltb, leb, List, length, get_or, drop, ℤ, pos, neg_ℤ, Some, None, Ok, Err, Decides, Result, sym, refl, ap, ◌∙◌, subst, ⊎_elim, w32}
 use Rattle.std.proofs.lemmas.Str.Parse.{IsNumeralModel, numerals_by_value, tells_all_ascii_digits, without_leading_plus_none, without_leading_plus_plus, parse_signed_minus, parse_signed_plain, parse_signed_plus}
-use Rattle.std.proofs.lemmas.Bool.{cond-true, cond-false, eqb_true, eqb-false, leb-true, le-leb, false≢true, cases_Bool}
+use Rattle.std.proofs.lemmas.Bool.{cond-true, cond-false, eqb-true, eqb-false, leb-true, le-leb, false≢true, cases_Bool}
 use Rattle.std.proofs.lemmas.Bool.Decides.{Decides-and, Decides-ltb}
 use Rattle.std.specs.Result.{OkIff, result_ok}
 use Rattle.std.specs.Str.Parse.{digits_value, starts_with_minus, without_leading_plus, ParsesSigned}
@@ -37,7 +37,7 @@ digits_below ds bound =
 module _ {E : Type 0} (w : List ℕ) (r : Result ℤ E) (h : ParsesSigned w32 10 w r) where
   with_minus : starts_with_minus w ≡ true → result_ok r ≡ decimal_in w
   with_minus e =
-      tested r _ _ _ (digits_up_to (drop 1 w) (2 ^ 31)) (parse_signed_minus own w32 w r h (eqb_true (get_or w 0 0) 45 e)) ∙ sym (cond-true (starts_with_minus w) _ _ e)
+      tested r _ _ _ (digits_up_to (drop 1 w) (2 ^ 31)) (parse_signed_minus own w32 w r h (eqb-true (get_or w 0 0) 45 e)) ∙ sym (cond-true (starts_with_minus w) _ _ e)
 
   -- The digits after an optional plus.
   unsigned : List ℕ → Type 0
@@ -48,7 +48,7 @@ module _ {E : Type 0} (w : List ℕ) (r : Result ℤ E) (h : ParsesSigned w32 10
   without_minus e =
       ⊎_elim
       (λ p.
-      let plus = eqb_true (get_or w 0 0) 43 p in
+      let plus = eqb-true (get_or w 0 0) 43 p in
       subst unsigned (sym (without_leading_plus_plus w plus)) (tested r _ _ _ (digits_below (drop 1 w) (2 ^ 31)) (parse_signed_plus own w32 w r h plus)) ∙ sym (cond-false (starts_with_minus w) _ _ e))
       (λ p.
       let plain = eqb-false (get_or w 0 0) 43 p in

@@ -3,7 +3,7 @@ use Rattle.std.proofs.Common.{◌≡◌, ℕ, zero, suc, ◌+◌, ◌-◌, ◌*�
 use mir.ValLaws.{to_z-Fits}
 use Rattle.std.specs.List.{AllByRecursion as All}
 use Rattle.std.proofs.lemmas.Int.{to_z-of_z, of_z-to_z}
-use Rattle.std.proofs.lemmas.Bool.{cond_both, eqb_true}
+use Rattle.std.proofs.lemmas.Bool.{cond_both, eqb-true}
 use Rattle.arithmetic.specs.declared.operators.Operator.{Operator}
 use Rattle.arithmetic.specs.declared.operators.Operator.TheVariants.{Add, Subtract, Multiply, Lesser, Greater, LessThan, Equal}
 use Rattle.arithmetic.specs.Operators.{operator_byte, not_byte}
@@ -101,23 +101,23 @@ module _ (b : ℕ) (bs : List ℕ) (h : Bytes bs) where
   operator_found [] = tt
   operator_found (o ∷ os) =
       cond_both (eqb b (operator_byte o)) _ _ (λ r. Found (b ∷ bs) (with_rest r bs))
-      (λ e. (tt, ap (λ n. n ∷ bs) (sym (eqb_true _ _ e)), h))
+      (λ e. (tt, ap (λ n. n ∷ bs) (sym (eqb-true _ _ e)), h))
       (λ e. operator_found os)
 
   -- A command of one byte that is found was written.
   single_found : Found (b ∷ bs) (with_rest (single b) bs)
   single_found =
       cond_both (eqb b not_byte) _ _ (λ r. Found (b ∷ bs) (with_rest r bs))
-      (λ e. (tt, ap (λ n. n ∷ bs) (sym (eqb_true _ _ e)), h))
+      (λ e. (tt, ap (λ n. n ∷ bs) (sym (eqb-true _ _ e)), h))
       (λ e. operator_found operators)
 
   -- A command that is found was written.
   next_found : Found (b ∷ bs) (next_command (b ∷ bs))
   next_found =
       cond_both (eqb b 0x40) _ _ (Found (b ∷ bs))
-      (λ e. subst (λ n. Found (n ∷ bs) (constant_in bs)) (sym (eqb_true _ _ e)) (constant_found bs h))
+      (λ e. subst (λ n. Found (n ∷ bs) (constant_in bs)) (sym (eqb-true _ _ e)) (constant_found bs h))
       (λ _. cond_both (eqb b 0x41) _ _ (Found (b ∷ bs))
-      (λ e. subst (λ n. Found (n ∷ bs) (variable_in bs)) (sym (eqb_true _ _ e)) (variable_found bs h))
+      (λ e. subst (λ n. Found (n ∷ bs) (variable_in bs)) (sym (eqb-true _ _ e)) (variable_found bs h))
       (λ _. single_found))
 
 -- If commands were read, they can be written, and are written as these bytes.

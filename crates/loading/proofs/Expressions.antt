@@ -2,7 +2,7 @@
 use Rattle.std.proofs.Common.{◌≡◌, ℕ, ◌+◌, ◌-◌, ◌<◌, ◌≤◌, ◌&&◌, eqb, leb, List, [], ◌∷◌, length, Some, None, Ok, Option, sym, refl, ap, subst, arith, w32, of_z}
 use mir.ValLaws.{of_z_fits}
 use Rattle.std.specs.List.{AllByRecursion as All}
-use Rattle.std.proofs.lemmas.Bool.{eqb_true, leb-true, le-leb, eq-eqb, and_from, and_parts}
+use Rattle.std.proofs.lemmas.Bool.{eqb-true, leb-true, le-leb, eq-eqb, and_from, and_parts}
 use Rattle.arithmetic.specs.declared.operators.Operator.{Operator}
 use Rattle.arithmetic.specs.declared.operators.Operator.TheVariants.{Add, Subtract, Multiply, Lesser, Greater, LessThan, Equal}
 use Rattle.arithmetic.specs.Operators.{operator_byte}
@@ -65,7 +65,7 @@ module _ (ds : List Variable) (t : ℕ) where
     checked_from [] d e h =
         let u = ensure_then (eqb d 1) _ _ e h in
         let P : Expression → Type 0 = λ l. (Some [] ≡ Some l) × (All Writable l → StacksRight ds t d l) in
-        subst P (same_ok u.1) (refl, λ _. eqb_true d 1 u.0)
+        subst P (same_ok u.1) (refl, λ _. eqb-true d 1 u.0)
     checked_from (p ∷ ps) d e h =
         let u = some_then p.command _ _ e h in
         let c = u.0 in

@@ -1,6 +1,6 @@
 -- Results in a row: a row is accepted exactly if each of its parts is.
 use Rattle.std.proofs.Common.{◌≡◌, ℕ, Bool, true, false, cond, eqb, ◌⊎◌, List, [], ◌∷◌, Some, None, Ok, Err, Option, Result, sym, refl, ap, ◌∙◌, inl, inr, ⊎_elim, arith}
-use Rattle.std.proofs.lemmas.Bool.{eqb_true}
+use Rattle.std.proofs.lemmas.Bool.{eqb-true}
 use Rattle.rules.specs.Outcomes.{◌>>=◌, ensure, from_some, refused_as, numbered}
 
 -- False is not true, nor true false: from either anything follows.
@@ -75,6 +75,6 @@ pub numbered_from : {A : Type 0} (number : A → ℕ) (list : List A) (n : ℕ) 
 numbered_from number [] n a h = no_some h
 numbered_from number (b ∷ list) n a h =
     ⊎_elim
-    (λ k. ap number (sym (same_some k.1)) ∙ eqb_true _ _ k.0)
+    (λ k. ap number (sym (same_some k.1)) ∙ eqb-true _ _ k.0)
     (λ k. numbered_from number list n a k.1)
     (cond_inv (eqb (number b) n) (Some b) _ (Some a) h)

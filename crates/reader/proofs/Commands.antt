@@ -1,6 +1,6 @@
 -- The commands of an expression, as the code takes them one by one.
 use Rattle.std.proofs.Common.{◌≡◌, ℕ, zero, suc, ◌+◌, ◌-◌, ◌<◌, ◌≤◌, Bool, true, false, eqb, List, [], ◌∷◌, length, get_or, Some, None, Ok, Err, Option, Result, sym, refl, ap, ◌∙◌, ⊎_elim, arith}
-use Rattle.std.proofs.lemmas.Bool.{le-leb, and_from, eqb_true, eqb-false, cases_Bool}
+use Rattle.std.proofs.lemmas.Bool.{le-leb, and_from, eqb-true, eqb-false, cases_Bool}
 use Rattle.arithmetic.specs.declared.operators.Operator.{Operator}
 use Rattle.arithmetic.specs.declared.operators.Operator.TheVariants.{Add, Subtract, Multiply, Lesser, Greater, LessThan, Equal}
 use Rattle.arithmetic.specs.Operators.{operator_byte}
@@ -39,7 +39,7 @@ module _ (ds : List Variable) (t p d : ℕ) where
 
   -- The operator of a byte, or another further on.
   one_of : (b : ℕ) (o : Operator) → ((b ≡ operator_byte o → ⊥) → (q : Operator) × (operator_byte q ≡ b)) → (q : Operator) × (operator_byte q ≡ b)
-  one_of b o more = ⊎_elim (λ h. (o, sym (eqb_true b (operator_byte o) h))) (λ h. more (eqb-false b (operator_byte o) h)) (cases_Bool (eqb b (operator_byte o)))
+  one_of b o more = ⊎_elim (λ h. (o, sym (eqb-true b (operator_byte o) h))) (λ h. more (eqb-false b (operator_byte o) h)) (cases_Bool (eqb b (operator_byte o)))
 
   operator_at : (b : ℕ) → 0x42 ≤ b → b ≤ 0x48 → (q : Operator) × (operator_byte q ≡ b)
   operator_at b low high =

@@ -1,6 +1,6 @@
 use Rattle.std.proofs.Common.{◌≡◌, ℕ, ◌-◌, ◌<◌, List, [], length, Ok, Err, sym, refl, ap, ◌∙◌, subst, arith}
 use Rattle.std.proofs.lemmas.Result.{err_from_is_err_and}
-use Rattle.std.proofs.lemmas.Bool.{eqb-false, eqb_true}
+use Rattle.std.proofs.lemmas.Bool.{eqb-false, eqb-true}
 use Rattle.evaluator.specs.Commands.{next_command}
 use Rattle.evaluator.specs.Evaluating.{value_at, taken}
 use Rattle.evaluator.specs.Outcomes.{leaving}
@@ -57,7 +57,7 @@ returns g c =
     let M = g.A.Arithmetic.meaning c.args.arithmetic.now in
     let look : ℕ → _ = λ v. value_at (before_base c.args.stack.now) (g.S.Scope.places c.args.scope.now v) in
     let inv = c.loop-rest.invariant in
-    let none = eqb_true _ _ (sym c.is-empty.ensures ∙ c.loop-rest-test.false) in
+    let none = eqb-true _ _ (sym c.is-empty.ensures ∙ c.loop-rest-test.false) in
     record {
       answer = sym (last_turn M look c.args.code.now c.loop-rest.rest.now (stacked c.loop-rest.stack) inv.3 none);
       before = inv.1;

@@ -4,7 +4,7 @@ use Rattle.std.proofs.lemmas.List.{get_or-set_same, get_or-set_other, get_or_pas
 use Rattle.std.proofs.lemmas.Bool.{cases_lt, cases_eq, and_parts}
 use Rattle.arithmetic.specs.Meaning.{Meaning, LimitsToTheNearest}
 use Rattle.rules.specs.Going.{go_on, arriving, goes_out, all_out, ends_weakly, becomes, weak_abort}
-use Rattle.rules.specs.Joining.{for-each, arms_at, with_arms, chosen, joined_value, join_at, joined, join, join_if, settle}
+use Rattle.rules.specs.Joining.{for_each, arms_at, with_arms, chosen, joined_value, join_at, joined, join, join_if, settle}
 use Rattle.rules.specs.Numbering.{Mark, Step, Text}
 use Rattle.rules.specs.Opening.{sample, copied, copied_value, Judged, goes, ends, judge, judge_one, judge_further, resume, open_thread, open_below, opening}
 use Rattle.rules.specs.Scopes.{is_shared, is_input}
@@ -42,7 +42,7 @@ quiet_active past e = refl
 quiet_active out e = e
 
 -- What the list of a function of the variables holds at v.
-pub each_at {ℓ} : {A : Type ℓ} (ds : List Variable) (k v : ℕ) (f : ℕ → A) (z : A) → v < length ds → get_or (for-each ds k f) v z ≡ f (k + v)
+pub each_at {ℓ} : {A : Type ℓ} (ds : List Variable) (k v : ℕ) (f : ℕ → A) (z : A) → v < length ds → get_or (for_each ds k f) v z ≡ f (k + v)
 each_at [] k v f z h = absurd (omega arith)
 each_at (d ∷ ds) k zero f z h = ap f (omega arith)
 each_at (d ∷ ds) k (suc v) f z h = each_at ds (suc k) v f z (omega arith) ∙ ap f (omega arith)
@@ -69,7 +69,7 @@ module _ {V : Type 0} (M : Meaning V) (law : LimitsToTheNearest M) (ds : List Va
   InsideThread h = OwnInside h.own × ArmsInside h.below
 
   -- A list made from a function of the variables is within limits where the function is.
-  pub each_inside : (f : ℕ → V) → ((v : ℕ) → is_shared (declared ds v).kind ≡ true → Inside v (f v)) → WithinLimits M ds (for-each ds 0 f)
+  pub each_inside : (f : ℕ → V) → ((v : ℕ) → is_shared (declared ds v).kind ≡ true → Inside v (f v)) → WithinLimits M ds (for_each ds 0 f)
   each_inside f h v e = subst (Inside v) (sym (each_at ds 0 v f (zero_value M) (shared_declared ds v e) ∙ ap f (omega arith))) (h v e)
 
   chosen_first : (P : V → Type 0) (t : Bool) (x y : V) → t ≡ true → P x → P (cond t x y)

@@ -16,7 +16,7 @@ import sys
 IDENT = r"[A-Za-z0-9_'?!◌₀-₉₁₂₃-]+"
 WORD = re.compile(r"(?<![A-Za-z0-9_'?!◌₀-₉-])[A-Za-z0-9_'?!◌₀-₉-]+")
 DEFINED = [
-    re.compile(r"^\s*(?:abbrev |unfoldable )?(?:pub )?(?P<name>" + IDENT + r") : (?!goal\.)"),
+    re.compile(r"^\s*(?:abbrev |unfoldable )?(?:pub )?(?P<name>" + IDENT + r")(?: \{[^{}]*\})* : (?!goal\.)"),
     re.compile(r"^\s*(?:pub )?(?:data|record|ruleset|syntax) (?P<name>" + IDENT + r")(?= |:)"),
 ]
 

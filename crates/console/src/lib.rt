@@ -1,4 +1,6 @@
 //! The console: reads the lines of a job, performs them, and answers.
+#![tactic(auto)]
+
 pub mod answer;
 pub mod choice;
 pub mod line;

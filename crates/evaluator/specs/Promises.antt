@@ -1,6 +1,6 @@
 -- What is promised of expressions and rates.
 use Rattle.std.specs.Prelude.{◌≡◌, ℕ, ◌/◌, ◌%◌, ◌^◌, ◌<◌, Bool, false, ◌↔◌, List, length, ℤ, Some, Ok, ◌==◌, ◌≢◌}
-use Rattle.std.specs.List.{AllByRecursion as All, slice_get}
+use Rattle.std.specs.List.{AllByRecursion, slice_get}
 use Rattle.arithmetic.specs.Plain.{plain}
 use Rattle.arithmetic.specs.Tracing.{tracing}
 use Rattle.arithmetic.specs.declared.traced.Traced.{Traced}
@@ -11,8 +11,8 @@ use Rattle.evaluator.specs.Rates.{rate_of, shown_number}
 -- Reading and writing are inverse: bytes are read as certain commands exactly if these can be written and are written as those bytes.
 abbrev pub ReadingInvertsWriting : Type 0
 ReadingInvertsWriting =
-    (bs : List ℕ) (cs : List Command) → All (λ b. b < 256) bs →
-    (all_read (commands_of bs) ≡ Some cs) ↔ (All Writable cs × (written cs ≡ bs))
+    (bs : List ℕ) (cs : List Command) → AllByRecursion (λ b. b < 256) bs →
+    (all_read (commands_of bs) ≡ Some cs) ↔ (AllByRecursion Writable cs × (written cs ≡ bs))
 
 -- Tracing never changes a rate: the number that a traced rate shows is the plain one, and so is each refusal.
 abbrev pub TracingKeepsTheRate : Type 0

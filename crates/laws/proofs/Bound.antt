@@ -118,8 +118,8 @@ lt_eqb : (m n : ℕ) → m < n → eqb m n ≡ false
 lt_eqb m n h = both_ways (eqb m n) (λ e. let q : m ≡ n = eqb→eq m n (subst T (sym e) tt) in absurd (omega arith)) (λ e. e)
 
 -- A value put at a number leaves the lower numbers alone.
-put-off {ℓ} : {A : Type ℓ} (n m : ℕ) (a : A) (f : ℕ → A) → m < n → put n a f m ≡ f m
-put-off n m a f h = rw (lt_eqb m n h)
+put_off {ℓ} : {A : Type ℓ} (n m : ℕ) (a : A) (f : ℕ → A) → m < n → put n a f m ≡ f m
+put_off n m a f h = rw (lt_eqb m n h)
 
 module _ (mp : Text → Bool) where
   -- The passes of a later loop do not change the cost of what comes after.
@@ -129,7 +129,7 @@ module _ (mp : Text → Bool) where
   off (again w bound e X B k) y n v p b h =
       let i = off k y n v p b.1 h in
       let c : w.number < n = omega (arith, b.0) in
-      (ap₂ (λ a r. loop_now bound a (block_length X) + r) (put-off n w.number v p c) (ap₂ (rest_with mp B) i.0 i.1), i.1)
+      (ap₂ (λ a r. loop_now bound a (block_length X) + r) (put_off n w.number v p c) (ap₂ (rest_with mp B) i.0 i.1), i.1)
   off (out_of w s e B k) y n v p b h = let i = off k y n v p b h in let j = ap₂ (rest_with mp B) i.0 i.1 in (j, j)
 
 -- ── room ──

@@ -1,6 +1,6 @@
 -- Valid programs and the bytes that they are written as.
-use Rattle.std.specs.Prelude.{◌≡◌, ℕ, ◌<◌, ◌∷◌, Ok}
-use Rattle.std.specs.List.{AllByRecursion as All}
+use Rattle.std.specs.Prelude.{◌≡◌, ◌<◌, Ok}
+use Rattle.std.specs.List.{AllByRecursion}
 use Rattle.rules.specs.Encoding.{encode}
 use Rattle.rules.specs.Reading.{read}
 use Rattle.rules.specs.Text.{Program}
@@ -8,7 +8,7 @@ use Rattle.rules.specs.Valid.{Valid}
 
 -- A program that is written in bytes.
 abbrev pub InBytes : Program → Type 0
-InBytes p = All (λ b. b < 256) (encode p)
+InBytes p = AllByRecursion (λ b. b < 256) (encode p)
 
 -- A valid program is read back from the bytes that it is written as.
 abbrev pub WrittenIsRead : Type 0

@@ -1,10 +1,13 @@
 //! Reads a job from standard input, performs it line by line, and prints the answers.
+#![tactic(auto)]
+
 ghost use Rattle.std.specs.Prelude.{◌≡◌, ◌+◌, ◌-◌, ◌^◌, min};
 
 use console::answer::Answer;
 use console::problem::Problem;
 use console::session::Session;
 use std::io::{BufRead, BufReader};
+use std::process::ExitCode;
 use std::{fmt, io};
 
 /// Why a job ends before its last line.
@@ -51,7 +54,8 @@ fn perform(rt: &HostRuntime, session: &mut Session, line: u64, text: &str) -> Re
 fn run(rt: &HostRuntime) -> Result<(), Stop> {
     let mut session = Session::new();
     let mut line = 0;
-    for text in BufReader::new(rt.alloc(), rt.stdin())?.lines(rt.alloc()) {
+    let input = BufReader::new(rt.alloc(), rt.stdin()).map_err(|error| Stop::UnreadLine(1, error))?;
+    for text in input.lines(rt.alloc()) {
         line = following(line);
         match text {
             Ok(text) => perform(rt, &mut session, line, text.as_str())?,
@@ -61,12 +65,12 @@ fn run(rt: &HostRuntime) -> Result<(), Stop> {
     Ok(())
 }
 
-fn main(rt: HostRuntime) -> Result<(), Stop> {
+fn main(rt: HostRuntime) -> ExitCode {
     match run(&rt) {
-        Ok(()) => Ok(()),
+        Ok(()) => ExitCode::SUCCESS,
         Err(stop) => {
-            eprintln!(rt; "{stop}")?;
-            Err(stop)
+            let _ = eprintln!(rt; "{stop}");
+            ExitCode::FAILURE
         }
     }
 }

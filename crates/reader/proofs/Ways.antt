@@ -7,7 +7,6 @@ use Rattle.rules.specs.Reading.{Counts, Head as Headed, after_statement, before_
 use Rattle.rules.specs.Text.{Expression, Stmt, Block, end, count, pars, count_of, pars_of}
 use Rattle.rules.specs.declared.faults.LoadFault.{LoadFault}
 use Rattle.rules.specs.declared.program.Form.{Form}
-use Rattle.rules.specs.declared.program.Form.TheVariants as Form
 use Rattle.rules.specs.declared.program.Variable.{Variable}
 use Rattle.reader.specs.declared.extents.Extent.{Extent}
 use Rattle.reader.specs.Extents.{built}
@@ -82,7 +81,7 @@ module _ (ds : List Variable) (n t : ℕ) (a : Counts) (e c : ℕ) (bs : List �
   abbrev between : ℕ → Counts → Counts
   between w b = record { statements = b.statements; pars = b.pars; threads = b.threads + w }
 
-  module _ (q : Seen) (w t₁ : ℕ) (h : Ok q ≡ head_seen) (w-is : w ≡ par_count q.form) (t-is : t₁ ≡ block_thread q.form t (a.threads + w)) where
+  module _ (q : Seen) (w t₁ : ℕ) (h : Ok q ≡ head_seen) (w_is : w ≡ par_count q.form) (t_is : t₁ ≡ block_thread q.form t (a.threads + w)) where
     -- The first block, as the code reads it and as the rules do.
     abbrev first_code : Result (Block (Unit {0})) LoadFault
     first_code = read_block ds n t₁ (begun w) (e - length q.after - length q.second) q.first
@@ -92,8 +91,8 @@ module _ (ds : List Variable) (n t : ℕ) (a : Counts) (e c : ℕ) (bs : List �
 
     first_same : mapped (sum_block (begun w)) first_code ≡ mapped (sum_block (before_first q.form a)) first_rule
     first_same =
-        let own = t-is ∙ ap (λ v. block_thread q.form t (a.threads + v)) w-is in
-        λ i. mapped (sum_block (begun (w-is i))) (read_block ds n (own i) (begun (w-is i)) (e - length q.after - length q.second) q.first)
+        let own = t_is ∙ ap (λ v. block_thread q.form t (a.threads + v)) w_is in
+        λ i. mapped (sum_block (begun (w_is i))) (read_block ds n (own i) (begun (w_is i)) (e - length q.after - length q.second) q.first)
 
     pub first_stopped : (g : LoadFault) → Err g ≡ mapped (sum_block (begun w)) first_code → Err g ≡ summary
     first_stopped g r =
@@ -112,9 +111,9 @@ module _ (ds : List Variable) (n t : ℕ) (a : Counts) (e c : ℕ) (bs : List �
       counts_there = sym (ap (λ (z : Extent × Counts). z.1) first_there.2)
 
       between_is : between w b ≡ before_second q.form X a
-      between_is = λ i. between (w-is i) (counts_there i)
+      between_is = λ i. between (w_is i) (counts_there i)
 
-      module _ (m t₂ : ℕ) (m-is : m ≡ n) (u-is : t₂ ≡ block_thread q.form t (b.threads + w)) where
+      module _ (m t₂ : ℕ) (m_is : m ≡ n) (u_is : t₂ ≡ block_thread q.form t (b.threads + w)) where
         -- The second block, as the code reads it and as the rules do.
         abbrev second_code : Result (Block (Unit {0})) LoadFault
         second_code = read_block ds m t₂ (between w b) (e - length q.after) q.second
@@ -124,8 +123,8 @@ module _ (ds : List Variable) (n t : ℕ) (a : Counts) (e c : ℕ) (bs : List �
 
         second_same : mapped (sum_block (between w b)) second_code ≡ mapped (sum_block (before_second q.form X a)) second_rule
         second_same =
-            let own = u-is ∙ ap (λ (z : Counts). block_thread q.form t z.threads) between_is in
-            λ i. mapped (sum_block (between_is i)) (read_block ds (m-is i) (own i) (between_is i) (e - length q.after) q.second)
+            let own = u_is ∙ ap (λ (z : Counts). block_thread q.form t z.threads) between_is in
+            λ i. mapped (sum_block (between_is i)) (read_block ds (m_is i) (own i) (between_is i) (e - length q.after) q.second)
 
         by_second : (z : Result (Stmt (Unit {0}) × List ℕ) LoadFault) → ((x : Expression) → (second_rule >>= (λ Y. Ok (build q.form q.byte x X Y, q.after))) ≡ z) → read_statement ds n (read_block ds n) t a e c bs ≡ z
         by_second z f = let k = by_blocks q h in k.1 ∙ bind_ok first_rule _ X first_there.1 (f k.0)
@@ -138,11 +137,11 @@ module _ (ds : List Variable) (n t : ℕ) (a : Counts) (e c : ℕ) (bs : List �
         both_read y d no_first no_second s =
             let k = by_blocks q h in
             let v = mapped_ok (sum_block (before_second q.form X a)) second_rule (y, d) (s ∙ second_same) in
-            let x-is = ap (λ (z : Extent × Counts). z.0) first_there.2 in
-            let y-is = ap (λ (z : Extent × Counts). z.0) v.2 in
-            let d-is = ap (λ (z : Extent × Counts). z.1) v.2 in
-            let no-X : has_block q.form ≡ false → X ≡ end = λ none. same_ok (sym first_there.1 ∙ read_empty ds n _ _ _ q.first (no_first none)) in
-            let no-Y : has_second_block q.form ≡ false → v.0 ≡ end = λ none. same_ok (sym v.1 ∙ read_empty ds n _ _ _ q.second (no_second none)) in
-            (λ i. Ok (built q.form q.byte (sym x-is i) (sym y-is i), sym d-is i, q.after))
-            ∙ (λ i. Ok (builds q.form q.byte k.0 X v.0 i, counts_built q.byte k.0 X v.0 a q.form no-X no-Y i, q.after))
+            let x_is = ap (λ (z : Extent × Counts). z.0) first_there.2 in
+            let y_is = ap (λ (z : Extent × Counts). z.0) v.2 in
+            let d_is = ap (λ (z : Extent × Counts). z.1) v.2 in
+            let no_X : has_block q.form ≡ false → X ≡ end = λ none. same_ok (sym first_there.1 ∙ read_empty ds n _ _ _ q.first (no_first none)) in
+            let no_Y : has_second_block q.form ≡ false → v.0 ≡ end = λ none. same_ok (sym v.1 ∙ read_empty ds n _ _ _ q.second (no_second none)) in
+            (λ i. Ok (built q.form q.byte (sym x_is i) (sym y_is i), sym d_is i, q.after))
+            ∙ (λ i. Ok (builds q.form q.byte k.0 X v.0 i, counts_built q.byte k.0 X v.0 a q.form no_X no_Y i, q.after))
             ∙ ap (mapped (sum_statement a)) (sym (k.1 ∙ bind_ok first_rule _ X first_there.1 (bind_ok second_rule _ v.0 v.1 refl)))

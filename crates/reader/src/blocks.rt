@@ -1,7 +1,7 @@
 //! Reads blocks by their statements, and statements by their blocks.
 ghost use Rattle.std.specs.Prelude.{◌≡◌, suc, ◌+◌, ◌-◌, ◌<◌, ◌≤◌, length, IfOk, OnOk};
 ghost use Rattle.evaluator.specs.Outcomes.{mapped};
-ghost use Rattle.rules.specs.Reading.{read_block as Block-read, read_statement as statement_read};
+ghost use Rattle.rules.specs.Reading.{read_block as block_read, read_statement as statement_read};
 ghost use Rattle.reader.specs.Counting.{counted, Few};
 ghost use Rattle.reader.specs.Seen.{seen_head, Fine};
 ghost use Rattle.reader.specs.Told.{told_head, head_at, with_counts, with_counts_and_rest, sum_block, sum_statement};
@@ -41,7 +41,7 @@ fn sited_head<'a>(
 }
 
 /// A block of a thread, whose bytes end at the place `end`.
-#[cycle(read_block_read_statement_read_statements)]
+#[cycle(reading)]
 pub(crate) fn read_block(
     bytes: &[u8],
     end: usize,
@@ -51,7 +51,7 @@ pub(crate) fn read_block(
     variables: &[Variable],
 ) -> Result<Extent, LoadFault>
     requires { (length bytes.now ≤ end) × ((end ≤ 4096) × (Few counts.old)) }
-    ensures answer { mapped (with_counts (counted counts.new)) result ≡ mapped (sum_block (counted counts.old)) (Block-read variables.now scope.old.nesting thread (counted counts.old) end bytes.now) }
+    ensures answer { mapped (with_counts (counted counts.new)) result ≡ mapped (sum_block (counted counts.old)) (block_read variables.now scope.old.nesting thread (counted counts.old) end bytes.now) }
     ensures few { OnOk result (Few counts.new) }
     ensures thread { scope.new.thread ≡ scope.old.thread }
     ensures nesting { scope.new.nesting ≡ scope.old.nesting }
@@ -76,7 +76,7 @@ pub(crate) fn read_block(
 }
 
 // Statements of the scope's thread, to the end of their block.
-#[cycle(read_block_read_statement_read_statements)]
+#[cycle(reading)]
 fn read_statements(
     bytes: &[u8],
     end: usize,
@@ -85,7 +85,7 @@ fn read_statements(
     variables: &[Variable],
 ) -> Result<Extent, LoadFault>
     requires { (length bytes.now ≤ end) × ((end ≤ 4096) × (Few counts.old)) }
-    ensures answer { mapped (with_counts (counted counts.new)) result ≡ mapped (sum_block (counted counts.old)) (Block-read variables.now (suc scope.old.nesting) scope.old.thread (counted counts.old) end bytes.now) }
+    ensures answer { mapped (with_counts (counted counts.new)) result ≡ mapped (sum_block (counted counts.old)) (block_read variables.now (suc scope.old.nesting) scope.old.thread (counted counts.old) end bytes.now) }
     ensures few { OnOk result (Few counts.new) }
     ensures thread { scope.new.thread ≡ scope.old.thread }
     ensures nesting { scope.new.nesting ≡ scope.old.nesting }
@@ -104,7 +104,7 @@ fn read_statements(
 }
 
 // The statement that begins with this command, and what follows it in its block.
-#[cycle(read_block_read_statement_read_statements)]
+#[cycle(reading)]
 fn read_statement<'a>(
     command: u8,
     rest: &'a [u8],
@@ -114,7 +114,7 @@ fn read_statement<'a>(
     variables: &[Variable],
 ) -> Result<(Extent, &'a [u8]), LoadFault>
     requires { (length rest.now < end) × ((end ≤ 4096) × (Few counts.old)) }
-    ensures answer { mapped (with_counts_and_rest (counted counts.new)) result ≡ mapped (sum_statement (counted counts.old)) (statement_read variables.now scope.old.nesting (Block-read variables.now scope.old.nesting) scope.old.thread (counted counts.old) end command rest.now) }
+    ensures answer { mapped (with_counts_and_rest (counted counts.new)) result ≡ mapped (sum_statement (counted counts.old)) (statement_read variables.now scope.old.nesting (block_read variables.now scope.old.nesting) scope.old.thread (counted counts.old) end command rest.now) }
     ensures few { OnOk result (Few counts.new) }
     ensures shorter { IfOk result (λ p. length p.1.now ≤ length rest.now) }
     ensures thread { scope.new.thread ≡ scope.old.thread }

@@ -1,5 +1,5 @@
 -- Calls: from a machine and a call to an answer and a machine. A refused call changes nothing.
-use Rattle.std.specs.Prelude.{ℕ, zero, suc, ◌+◌, Bool, true, false, List, [], ◌∷◌, length, ℤ, Ok, Err, Result, ◌==◌, nat_le}
+use Rattle.std.specs.Prelude.{ℕ, suc, Bool, true, false, List, [], ◌∷◌, length, ℤ, Ok, Err, Result, ◌==◌, nat_le}
 use Rattle.arithmetic.specs.Meaning.{Meaning}
 use Rattle.evaluator.specs.Evaluating.{all_places}
 use Rattle.rules.specs.Numbering.{text_of}

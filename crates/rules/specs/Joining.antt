@@ -12,9 +12,9 @@ use Rattle.rules.specs.declared.program.Policy.TheVariants.{All, New, Mod}
 use Rattle.rules.specs.declared.program.Variable.{Variable}
 
 -- The list f 0, f 1, .. for the declared variables.
-abbrev pub for-each {ℓ} : {A : Type ℓ} → List Variable → ℕ → (ℕ → A) → List A
-for-each [] v f = []
-for-each (d ∷ ds) v f = f v ∷ for-each ds (suc v) f
+abbrev pub for_each {ℓ} : {A : Type ℓ} → List Variable → ℕ → (ℕ → A) → List A
+for_each [] v f = []
+for_each (d ∷ ds) v f = f v ∷ for_each ds (suc v) f
 
 module _ {V : Type 0} where
   -- The two arms of the par whose first arm is a.
@@ -60,7 +60,7 @@ module _ {V : Type 0} (M : Meaning V) where
         get_or m.sets v false || (takes_part a.state && get_or a.memo.sets v false) || (takes_part b.state && get_or b.memo.sets v false)
 
     abbrev pub joined : Memo V → (first second : Own V) → Memo V
-    joined m a b = record { values = for-each ds 0 (join_at m a b); sets = for-each ds 0 (join_mark m a b); passes = m.passes; marks = m.marks }
+    joined m a b = record { values = for_each ds 0 (join_at m a b); sets = for_each ds 0 (join_mark m a b); passes = m.passes; marks = m.marks }
 
     -- If both arms are ended or past, the parent is ready after the par and the arms are out; otherwise it is held.
     abbrev pub join : Mark → Text → After → Memo V → (first second : Own V) → Arms V → Thread V

@@ -1,5 +1,5 @@
 -- The value memory: which place holds what.
-use Rattle.std.specs.Prelude.{ℕ, ◌-◌, ◌/◌, ◌%◌, Bool, true, false, cond, List, Some, None, Option, ◌==◌, nat_lt, slice_index_or}
+use Rattle.std.specs.Prelude.{ℕ, ◌-◌, ◌/◌, ◌%◌, true, false, cond, List, Some, None, Option, ◌==◌, nat_lt, slice_index_or}
 use Rattle.arithmetic.specs.Meaning.{Meaning}
 use Rattle.rules.specs.Scopes.{is_shared, is_private}
 use Rattle.rules.specs.Threads.{Own, Arms, no_arms, both, Thread, Config}

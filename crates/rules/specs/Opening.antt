@@ -2,11 +2,11 @@
 use Rattle.std.specs.Prelude.{ℕ, suc, Bool, true, false, cond, not, ◌&&◌, List, [], ◌∷◌, ℤ, slice_index_or}
 use Rattle.arithmetic.specs.Meaning.{Meaning}
 use Rattle.rules.specs.Going.{go_on, all_out, with_mark}
-use Rattle.rules.specs.Joining.{for-each}
+use Rattle.rules.specs.Joining.{for_each}
 use Rattle.rules.specs.Numbering.{Mark, Text}
 use Rattle.rules.specs.Scopes.{is_shared, is_input}
 use Rattle.rules.specs.Text.{Expression, end}
-use Rattle.rules.specs.Threads.{After, leave, on, again, out_of, State, fresh, ready, waiting, held, paused, ended, past, out, Memo, Own, Arms, no_arms, both, Thread, thread, is, Config}
+use Rattle.rules.specs.Threads.{After, leave, on, again, out_of, State, fresh, ready, waiting, held, paused, ended, past, out, Memo, Arms, no_arms, both, Thread, thread, is, Config}
 use Rattle.rules.specs.Values.{declared, zero_value, holds}
 use Rattle.rules.specs.declared.program.Variable.{Variable}
 
@@ -36,7 +36,7 @@ module _ {V : Type 0} (M : Meaning V) where
     copied_value m v = cond (is_shared (declared ds v).kind) (slice_index_or stores v (zero_value M)) (slice_index_or m.values v (zero_value M))
 
     abbrev pub copied : Memo V → Memo V
-    copied m = record { values = for-each ds 0 (copied_value m); sets = for-each ds 0 (λ v. false); passes = m.passes; marks = m.marks }
+    copied m = record { values = for_each ds 0 (copied_value m); sets = for_each ds 0 (λ v. false); passes = m.passes; marks = m.marks }
 
     -- An abort's mark is 1 if its condition holds; a strong one with 1 ends.
     abbrev pub judge_one : Mark → (weak : Bool) → Expression → Text → After → Memo V → Judged × Memo V

@@ -1,8 +1,8 @@
 -- The promises that the rules are proved to keep. docs/PROMISES.md says which of them stand on a contract.
-use Rattle.std.specs.Prelude.{◌≡◌, ℕ, ◌<◌, ◌≤◌, Bool, true, false, ◌≢◌, ◌⊎◌, ◌↔◌, List, ◌≤ℤ◌, Some, Ok}
-use Rattle.std.specs.List.{AllByRecursion as All}
+use Rattle.std.specs.Prelude.{◌≡◌, ℕ, ◌<◌, ◌≤◌, true, false, ◌≢◌, ◌⊎◌, ◌↔◌, List, Ok}
+use Rattle.std.specs.List.{AllByRecursion}
 use Rattle.arithmetic.specs.Meaning.{Meaning}
-use Rattle.rules.specs.Calls.{Call, step_thread, close, finish, Answer, accepted, steps, Machine, empty, running, rates_of, perform}
+use Rattle.rules.specs.Calls.{Call, step_thread, close, finish, steps, Machine, empty, running, rates_of, perform}
 use Rattle.rules.specs.Encoding.{encode}
 use Rattle.rules.specs.Lengths.{tick_length}
 use Rattle.rules.specs.Reading.{read}
@@ -18,7 +18,7 @@ use Rattle.rules.specs.declared.program.Variable.{Variable}
 
 -- Loading accepts exactly the valid programs, each by the bytes that it is written as.
 abbrev pub LoadingAcceptsTheValid : Type 0
-LoadingAcceptsTheValid = (bs : List ℕ) (p : Program) → All (λ b. b < 256) bs → (read bs ≡ Ok p) ↔ (Valid p × (encode p ≡ bs))
+LoadingAcceptsTheValid = (bs : List ℕ) (p : Program) → AllByRecursion (λ b. b < 256) bs → (read bs ≡ Ok p) ↔ (Valid p × (encode p ≡ bs))
 
 -- ── the order of steps ──
 

@@ -1,14 +1,14 @@
 -- A whole tick: the left-to-right run, closing, and what a load leaves.
-use Rattle.std.specs.Prelude.{ℕ, zero, suc, ◌+◌, Bool, true, false, cond, List, ℤ, Some, None, Option, ◌==◌, slice_index_or}
+use Rattle.std.specs.Prelude.{ℕ, zero, suc, ◌+◌, true, false, cond, List, ℤ, Some, None, ◌==◌, slice_index_or}
 use Rattle.arithmetic.specs.Meaning.{Meaning}
-use Rattle.rules.specs.Joining.{for-each}
+use Rattle.rules.specs.Joining.{for_each}
 use Rattle.rules.specs.Lengths.{block_length}
-use Rattle.rules.specs.Numbering.{Mark, Step, Text, first_arm, second_arm}
+use Rattle.rules.specs.Numbering.{Step, Text, first_arm, second_arm}
 use Rattle.rules.specs.Opening.{opening}
 use Rattle.rules.specs.Scopes.{is_shared, is_private}
 use Rattle.rules.specs.Stepping.{lowest, step}
 use Rattle.rules.specs.Text.{nothing, assign, pause, branch, loop, par, abort, end, ◌then◌}
-use Rattle.rules.specs.Threads.{State, fresh, out, Memo, Own, Arms, no_arms, both, Thread, is, Config, closable}
+use Rattle.rules.specs.Threads.{fresh, out, Memo, Arms, no_arms, both, Thread, is, Config, closable}
 use Rattle.rules.specs.Values.{declared, zero_value}
 use Rattle.rules.specs.declared.program.Variable.{Variable}
 
@@ -32,7 +32,7 @@ module _ {V : Type 0} (M : Meaning V) (ds : List Variable) where
   closed_store σ v = cond (is_shared (declared ds v).kind) (slice_index_or σ.main.own.memo.values v (zero_value M)) (slice_index_or σ.stores v (zero_value M))
 
   abbrev pub closing : Config V → Config V
-  closing σ = record { stores = for-each ds 0 (closed_store σ); main = σ.main }
+  closing σ = record { stores = for_each ds 0 (closed_store σ); main = σ.main }
 
   -- Stepping left to right from an open tick with a count, and closing.
   abbrev pub finishing : Text → (count : ℕ) → Config V → ℕ × Config V
@@ -52,7 +52,7 @@ module _ {V : Type 0} (M : Meaning V) (ds : List Variable) where
 
   -- No copies, no marks, no passes left.
   abbrev pub new_memo : (thread : ℕ) → Memo V
-  new_memo t = record { values = for-each ds 0 (initial_value t); sets = for-each ds 0 (λ v. false); passes = λ n. 0; marks = λ n. false }
+  new_memo t = record { values = for_each ds 0 (initial_value t); sets = for_each ds 0 (λ v. false); passes = λ n. 0; marks = λ n. false }
 
   -- All arms of a text are out.
   abbrev mutual
@@ -73,6 +73,6 @@ module _ {V : Type 0} (M : Meaning V) (ds : List Variable) where
   -- The stores hold the initial values, main is fresh, all other threads are out.
   abbrev pub loaded : Text → Config V
   loaded X = record {
-    stores = for-each ds 0 (λ v. M.constant (declared ds v).initial);
+    stores = for_each ds 0 (λ v. M.constant (declared ds v).initial);
     main = record { own = is fresh (new_memo 0); below = arms_of_text X };
   }

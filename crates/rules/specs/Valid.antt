@@ -1,7 +1,7 @@
 -- Valid programs: every rule that an accepted program keeps.
-use Rattle.std.specs.Prelude.{◌≡◌, ℕ, ◌+◌, ◌-◌, ◌<◌, ◌≤◌, Bool, true, List, [], ◌∷◌, length, ◌≤ℤ◌, FitsSigned}
+use Rattle.std.specs.Prelude.{◌≡◌, ℕ, ◌+◌, ◌-◌, ◌<◌, ◌≤◌, true, List, [], ◌∷◌, length, ◌≤ℤ◌, FitsSigned}
 use Rattle.std.specs.Int.{w32}
-use Rattle.std.specs.List.{AllByRecursion as All}
+use Rattle.std.specs.List.{AllByRecursion}
 use Rattle.arithmetic.specs.Operators.{combining_number}
 use Rattle.evaluator.specs.Commands.{Writable, written}
 use Rattle.evaluator.specs.Evaluating.{deepest, longest}
@@ -65,7 +65,7 @@ abbrev mutual
 pub record Valid (p : Program) : Type 0 where
   pub short_enough : length (encode p) ≤ most_bytes
   pub few_variables : length p.variables ≤ most_variables
-  pub declared : All (Declared (1 + arms p.main)) p.variables
+  pub declared : AllByRecursion (Declared (1 + arms p.main)) p.variables
   pub few_statements : count p.main ≤ most_statements
   pub few_pars : pars p.main ≤ most_pars
   pub shallow : depth p.main ≤ most_nested

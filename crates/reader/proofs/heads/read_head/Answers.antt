@@ -8,9 +8,9 @@ use Rattle.reader.proofs.heads.read_head.Goals as goal
 
 pub returns : goal.returns
 returns c =
-    let o = pieces c.in-ok-parts.parts in
-    let here = c.in-ok-parts.ensures in
-    let place = c.code-begin-code-place.ensures.0 in
+    let o = pieces c.in_ok-parts.parts in
+    let here = c.in_ok-parts.ensures in
+    let place = c.code_begin-code_place.ensures.0 in
     record {
       answer =
           ap (λ n. Ok (record { form = c.in-Some.form; byte = o.byte; code = o.code; code_from = n; first = o.first; second = o.second; after = o.after })) place

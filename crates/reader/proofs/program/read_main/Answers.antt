@@ -5,9 +5,9 @@ use Rattle.reader.proofs.Mains.{main_read, main_stopped}
 use Rattle.reader.proofs.program.read_main.Goals as goal
 
 pub returns : goal.returns
-returns c = main_read c.args.variables.now c.args.from c.args.program.now (search rules) (search rules) c.in-ok-extent.extent c.read_block.new.counts c.in-ok-extent.ensures.answer
+returns c = main_read c.args.variables.now c.args.from c.args.program.now (search rules) (search rules) c.in_ok-extent.extent c.read_block.new.counts c.in_ok-extent.ensures.answer
 
-pub returns-in-err-extent : goal.returns-in-err-extent
-returns-in-err-extent c =
-    let f = err_from_is_err_and c.from-residual.result c.from-residual.ensures.1 in
-    f.1 ∙ ap Err f.2 ∙ main_stopped c.args.variables.now c.args.from c.args.program.now (search rules) (search rules) _ c.in-err-extent.ensures.answer
+pub returns-in_err-extent : goal.returns-in_err-extent
+returns-in_err-extent c =
+    let f = err_from_is_err_and c.from_residual.result c.from_residual.ensures.1 in
+    f.1 ∙ ap Err f.2 ∙ main_stopped c.args.variables.now c.args.from c.args.program.now (search rules) (search rules) _ c.in_err-extent.ensures.answer

@@ -1,0 +1,2 @@
+//! The table of a program's statements: a row for each, by its number.
+pub mod rows;

@@ -1,4 +1,6 @@
 //! Evaluates expressions: postfix commands over a stack of values.
+#![tactic(auto)]
+
 pub mod evaluation;
 pub mod limits;
 pub mod promises;

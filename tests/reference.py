@@ -2,12 +2,22 @@
 
 It works on flat tables, one row a statement and one entry a thread, where the definitions work on a tree.
 Its numbers are compared with those of the definitions, and it serves as a second opinion in tests.
+It can be told to make one of five slips, to see which numbers the slip changes.
 """
 from dataclasses import dataclass, field
 
 LOWEST, HIGHEST = -2 ** 31, 2 ** 31 - 1
 NOTHING, SET, PAUSE, IF, LOOP, PAR, ABORT = range(7)
 INPUT, PRIVATE, SHARED, OUTPUT = range(4)
+LONGEST_TICK = 60000
+
+# Slips of hurried work; a machine makes none unless it is told to.
+STORES_FOR_COPIES = "reading stores instead of copies"
+ORDER_OF_ARRIVAL = "joining in order of arrival"
+PAST_ARMS_COUNTED = "counting a past arm in a join"
+OUTERMOST_ABORT = "ending the outermost weak abort"
+FLAT_JOINS = "flattening nested joins"
+SLIPS = [STORES_FOR_COPIES, ORDER_OF_ARRIVAL, PAST_ARMS_COUNTED, OUTERMOST_ABORT, FLAT_JOINS]
 
 
 def saturate(n):
@@ -99,11 +109,38 @@ class Program:
                 row.firsts.append(self.block(part, thread, (number, which)))
         return number, bs[at:]
 
+    # tick length
+
+    def length(self):
+        return self.block_length(self.first[0]) + 1
+
+    def accepted(self):
+        """Whether the tick length allows the program; the other rules of reading are not checked here."""
+        return self.length() <= LONGEST_TICK
+
+    def block_length(self, number):
+        total = 0
+        while number is not None:
+            total += self.statement_length(self.rows[number])
+            number = self.rows[number].next
+        return total
+
+    def statement_length(self, row):
+        blocks = [self.block_length(n) for n in row.firsts] + [self.block_length(self.first[a]) for a in row.arms]
+        if row.form == IF:
+            return 1 + max(blocks)
+        if row.form == LOOP:
+            return (row.byte + 1) + row.byte * blocks[0] if row.byte else 1 + 2 * blocks[0]
+        if row.form == PAR:
+            return 3 + sum(blocks)
+        return 1 + sum(blocks)
+
 
 class Machine:
     """A loaded program with its stores and threads; values are plain numbers."""
 
-    def __init__(self, data):
+    def __init__(self, data, slip=None):
+        self.slip = slip
         self.program = Program(data)
         p = self.program
         self.stores = [d.initial for d in p.variables]
@@ -115,11 +152,12 @@ class Machine:
         self.passes = [0] * len(p.rows)
         self.mark = [False] * len(p.rows)
         self.count = 0
+        self.arrived = [0] * threads     # the last step or join of each thread; only a slip asks
 
     # values
 
     def read(self, thread, v):
-        if self.program.variables[v].kind in (SHARED, OUTPUT):
+        if self.program.variables[v].kind in (SHARED, OUTPUT) and self.slip != STORES_FOR_COPIES:
             return self.copies[thread][v]
         return self.stores[v]
 
@@ -194,7 +232,8 @@ class Machine:
 
     def stop(self, thread, state, number):
         """The thread becomes paused or held, unless its innermost weak abort with mark 1 ends."""
-        for a in self.aborts_round(number):
+        aborts = self.aborts_round(number)
+        for a in reversed(aborts) if self.slip == OUTERMOST_ABORT else aborts:
             if self.program.rows[a].byte & 1 and self.mark[a]:
                 self.all_out(thread)
                 self.after(thread, a)
@@ -286,6 +325,7 @@ class Machine:
 
     def join_above(self, t):
         while self.program.parent[t] is not None:
+            self.arrived[t] = self.count
             par = self.program.parent[t]
             row = self.program.rows[par]
             parent = row.thread
@@ -303,7 +343,10 @@ class Machine:
             t = parent
 
     def join(self, parent, arms):
-        arms = [a for a in arms if self.state[a][0] != "past"]
+        if self.slip != PAST_ARMS_COUNTED:
+            arms = [a for a in arms if self.state[a][0] != "past"]
+        if self.slip == ORDER_OF_ARRIVAL:
+            arms = sorted(arms, key=lambda a: self.arrived[a])
         for v in self.program.shared():
             d = self.program.variables[v]
             before = self.copies[parent][v]
@@ -313,7 +356,8 @@ class Machine:
                 self.copies[parent][v] = taken[0]
             elif len(taken) == 2:
                 x, y = taken
-                self.copies[parent][v] = d.limited([saturate(x + y), min(x, y), max(x, y), x][d.operator])
+                combined = [saturate(x + y), min(x, y), max(x, y), x][d.operator]
+                self.copies[parent][v] = combined if self.slip == FLAT_JOINS and parent != 0 else d.limited(combined)
             for a in arms:
                 self.marks_of_sets[parent][v] = self.marks_of_sets[parent][v] or self.marks_of_sets[a][v]
 

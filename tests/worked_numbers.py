@@ -1,10 +1,15 @@
 """Compares the worked numbers with an independent interpreter, and steps each tick in many random orders.
 
-The same numbers are proved of the definitions by `worked_numbers` of crates/rules.
+The same numbers, under the same names, are proved of the definitions by `worked_numbers` of crates/rules.
+Then the interpreter makes each of five slips: each has to change the worked numbers that a table names, and no other.
 """
 import random
+import re
 import sys
-from reference import Machine
+from pathlib import Path
+from reference import Machine, Program, SLIPS, STORES_FOR_COPIES, ORDER_OF_ARRIVAL, PAST_ARMS_COUNTED, OUTERMOST_ABORT, FLAT_JOINS
+
+STATED = Path(__file__).resolve().parent.parent / "crates" / "rules" / "specs" / "Worked.antt"
 
 
 def number(n):
@@ -85,31 +90,64 @@ def equals(n):
 NESTED_ABORTS = program([variable(1, 0, 0, 1, -100, 100)],
                         abort(1, 1, equals(1), sets(2) + abort(0, 1, equals(2), sets(3) + pause() + sets(4)) + sets(5) + pause() + sets(6)))
 
+NESTED_WEAK_ABORTS = program([output(0, 0, 0, 100)], abort(1, 1, number(1), abort(1, 1, number(1), pause()) + sets(5) + pause()))
+
+LEFT_ARMS = program([output(0, 3, 0, 100)], par(sets(30), sets(80)))
+
+
+def nested_loops(n):
+    return program([], loop(255, number(1), loop(n, number(1), b"")))
+
+
 # name, program, the steps and the rate of each tick
 TABLE = [
-    ("empty", program([], b""), [(1, 0)]),
-    ("pause", program([], pause()), [(1, 0), (1, 0)]),
-    ("loop of three", program([], loop(3, number(1), nothing())), [(8, 0)]),
-    ("longest", program([], loop(255, number(1), loop(233, number(1), b""))), [(59927, 0)]),
-    ("all, sum", two_arms(0, 0, 30, 80), [(5, 100), (2, 100)]),
-    ("new, least", two_arms(1, 1, 30, 0), [(5, 30)]),
-    ("mod, least", two_arms(2, 1, 30, 0), [(5, 0)]),
+    ("empty_steps", bytes([0]), [(1, 0)]),
+    ("pause_steps", bytes([0, 2]), [(1, 0), (1, 0)]),
+    ("loop_steps", program([], loop(3, number(1), nothing())), [(8, 0)]),
+    ("longest_steps", nested_loops(233), [(59927, 0)]),
+    ("all_sum", two_arms(0, 0, 30, 80), [(5, 100), (2, 100)]),
+    ("past_arm", two_arms(0, 0, 30, 40), [(5, 70), (2, 70)]),
+    ("left_first_arm_first", LEFT_ARMS, [(6, 30)]),
+    ("left_second_arm_first", LEFT_ARMS, [(6, 30)]),
+    ("new_least", two_arms(1, 1, 30, 0), [(5, 30)]),
+    ("mod_least", two_arms(2, 1, 30, 0), [(5, 0)]),
     ("strong", dosing(0, 0, 5), [(3, 7), (2, 8)]),
     ("weak", dosing(1, 0, 5), [(3, 7), (4, 10)]),
-    ("strong immediate", dosing(0, 1, 0), [(3, 2)]),
-    ("weak immediate", dosing(1, 1, 0), [(5, 8)]),
-    ("nested on the left", program([WIDE], par(par(sets(80), sets(30)), sets(-20))), [(10, 80)]),
-    ("nested on the right", program([WIDE], par(sets(80), par(sets(30), sets(-20)))), [(10, 90)]),
-    ("classic strong", classic(0, 0), [(7, 7), (1, 7)]),
-    ("classic weak", classic(1, 0), [(7, 7), (5, 9)]),
-    ("classic strong immediate", classic(0, 1), [(3, 1)]),
-    ("classic weak immediate", classic(1, 1), [(8, 7)]),
-    ("nested aborts", NESTED_ABORTS, [(6, 5)]),
+    ("strong_immediate", dosing(0, 1, 0), [(3, 2)]),
+    ("weak_immediate", dosing(1, 1, 0), [(5, 8)]),
+    ("left_nested", program([WIDE], par(par(sets(80), sets(30)), sets(-20))), [(10, 80)]),
+    ("right_nested", program([WIDE], par(sets(80), par(sets(30), sets(-20)))), [(10, 90)]),
+    ("classic_strong", classic(0, 0), [(7, 7), (1, 7)]),
+    ("classic_weak", classic(1, 0), [(7, 7), (5, 9)]),
+    ("classic_strong_immediate", classic(0, 1), [(3, 1)]),
+    ("classic_weak_immediate", classic(1, 1), [(8, 7)]),
+    ("nested_aborts_rate", NESTED_ABORTS, [(6, 5)]),
+    ("nested_weak_aborts_rate", NESTED_WEAK_ABORTS, [(6, 5)]),
 ]
 
+# name, program, tick length, whether a tick may be so long
+LENGTHS = [
+    ("empty_length", bytes([0]), 1, True),
+    ("pause_length", bytes([0, 2]), 2, True),
+    ("longest_accepted", nested_loops(233), 59927, True),
+    ("too_long", nested_loops(234), 60182, False),
+]
 
-def ticks(data, count, pick):
-    machine = Machine(data)
+# The worked numbers that are stated of an order of steps by the threads' numbers; the others are of the left-to-right run.
+ORDERS = {"left_first_arm_first": [0, 1, 1, 2, 2, 0], "left_second_arm_first": [0, 2, 2, 1, 1, 0]}
+
+# The worked numbers that each slip changes, and what it makes of them.
+CHANGED = {
+    STORES_FOR_COPIES: {"weak": [(3, 7), (4, 8)], "weak_immediate": [(5, 2)],
+                        "classic_strong_immediate": [(7, 7)], "classic_weak_immediate": [(7, 7)]},
+    ORDER_OF_ARRIVAL: {"left_second_arm_first": [(6, 80)]},
+    PAST_ARMS_COUNTED: {"past_arm": [(5, 70), (2, 100)]},
+    OUTERMOST_ABORT: {"nested_weak_aborts_rate": [(4, 0)]},
+    FLAT_JOINS: {"left_nested": [(10, 90)]},
+}
+
+
+def ticks(machine, count, pick):
     found = []
     for _ in range(count):
         steps = machine.tick(pick=pick)
@@ -117,18 +155,74 @@ def ticks(data, count, pick):
     return found
 
 
-def main():
-    failed = 0
+def as_stated(name):
+    """Picks the threads in the order that the worked number is stated of."""
+    if name not in ORDERS:
+        return min
+    threads = iter(ORDERS[name])
+    return lambda ready: next(threads)
+
+
+def orders(name):
+    """The stated order, and where it is quick many others."""
+    yield as_stated(name)
+    if name != "longest_steps":
+        yield max
+        for n in range(20):
+            yield random.Random(n).choice
+
+
+def number_problems():
+    """Worked numbers that the interpreter does not give."""
     for name, data, expected in TABLE:
-        orders = [min, max] + [random.Random(n).choice for n in range(20)]
-        for pick in orders if name != "longest" else [min]:
-            found = ticks(data, len(expected), pick)
+        for pick in orders(name):
+            found = ticks(Machine(data), len(expected), pick)
             if found != expected:
-                print(f"{name}: {found} instead of {expected}")
-                failed += 1
+                yield f"{name}: {found} instead of {expected}"
                 break
-    print(f"worked numbers: {len(TABLE) - failed} passed, {failed} failed")
-    return 1 if failed else 0
+    for name, data, length, accepted in LENGTHS:
+        p = Program(data)
+        if (p.length(), p.accepted()) != (length, accepted):
+            yield f"{name}: {p.length()}, accepted: {p.accepted()}"
+    over = Machine(classic(0, 0))
+    ticks(over, 2, min)
+    if over.state[0][0] != "ended":
+        yield "classic_strong_over: main is not ended"
+
+
+def stated_problems():
+    """Worked numbers of the theorem that differ from those of the tables or are missing in them."""
+    ours = {name: expected for name, _, expected in TABLE}
+    ours.update((name, length) for name, _, length, _ in LENGTHS)
+    stated = {}
+    for name, left, right in re.findall(r"^  pub ([a-z0-9_]+) : (.*) ≡ (.*)$", STATED.read_text(encoding="utf-8"), re.M):
+        if left.startswith("tick"):
+            stated[name] = int(right) if right.isdigit() else [(int(a), int(b)) for a, b in re.findall(r"\((\d+), pos (\d+)\)", right)]
+    for name in sorted(set(ours) | set(stated)):
+        if ours.get(name) != stated.get(name):
+            yield f"{name}: {ours.get(name)} here, {stated.get(name)} in the theorem"
+
+
+def slip_problems(slip):
+    """Differences between the worked numbers that a slip changes and those that it should change."""
+    changed = {}
+    for name, data, expected in TABLE:
+        found = ticks(Machine(data, slip), len(expected), as_stated(name))
+        if found != expected:
+            changed[name] = found
+    print(f"slip '{slip}' changes: {', '.join(changed) or 'no worked number'}")
+    if not changed or changed != CHANGED[slip]:
+        yield f"slip '{slip}': {changed} instead of {CHANGED[slip]}"
+
+
+def main():
+    problems = list(number_problems()) + list(stated_problems())
+    for slip in SLIPS:
+        problems += slip_problems(slip)
+    for problem in problems:
+        print(problem)
+    print(f"worked numbers: {len(TABLE) + len(LENGTHS)} compared, {len(SLIPS)} slips tried, {len(problems)} failed")
+    return 1 if problems else 0
 
 
 if __name__ == "__main__":

@@ -9,3 +9,10 @@ pub mod Read
 pub mod Pauses
 pub mod Whole
 pub mod Writing
+pub mod Alike
+pub mod Refused
+pub mod Late
+pub mod Heads
+pub mod Again
+pub mod FirstFault
+pub mod Begins

@@ -16,7 +16,7 @@ use Rattle.loading.proofs.Results.{bind_ok, bind_inv, ensure_ok, ensure_then, sa
 use Rattle.loading.proofs.Written.{block_back}
 
 -- A valid program is read from what it is written as.
-read_back : (p : Program) → Valid p → read (encode p) ≡ Ok p
+pub read_back : (p : Program) → Valid p → read (encode p) ≡ Ok p
 read_back p v =
     let ds = p.variables in
     let s = v.few_statements in let k = v.few_pars in

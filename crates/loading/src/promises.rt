@@ -1,10 +1,21 @@
 //! What is promised of loading.
+ghost use Rattle.loading.specs.Begins.{NoValidProgramBeginsSo};
 ghost use Rattle.loading.specs.Writing.{WrittenIsRead, WritingTellsApart};
-ghost use Rattle.rules.specs.Promises.{LoadingAcceptsTheValid};
+ghost use Rattle.rules.specs.Promises.{LoadingAcceptsTheValid, TheFirstFaultIsNamed};
 
 /// Loading accepts exactly the valid programs, each by the bytes that it is written as.
 pub fn loading_accepts_the_valid()
     ensures { LoadingAcceptsTheValid }
+{}
+
+/// The fault that loading names is the first: with the length the same, bytes after the 261 from its place on never change it.
+pub fn the_first_fault_is_named()
+    ensures { TheFirstFaultIsNamed }
+{}
+
+/// No valid program is as long as bytes in which a fault is met, and the same through these 261 bytes.
+pub fn no_valid_program_begins_so()
+    ensures { NoValidProgramBeginsSo }
 {}
 
 /// A valid program is read back from the bytes that it is written as.

@@ -39,6 +39,7 @@ declaration_bytes d =
     kind_number d.kind ∷ policy_number d.policy ∷ combining_number d.operator ∷ d.owner
     ∷ four_bytes (of_z w32 d.initial) ++ (four_bytes (of_z w32 d.low) ++ four_bytes (of_z w32 d.high))
 
+-- Declarations are written one after the other.
 abbrev pub declarations_bytes : List Variable → List ℕ
 declarations_bytes [] = []
 declarations_bytes (d ∷ ds) = declaration_bytes d ++ declarations_bytes ds
@@ -47,7 +48,7 @@ declarations_bytes (d ∷ ds) = declaration_bytes d ++ declarations_bytes ds
 abbrev pub expression_bytes : Expression → List ℕ
 expression_bytes e = length (written e) ∷ written e
 
--- A block's length is two bytes.
+-- A block's length is two bytes, the low one first.
 abbrev pub two_bytes : ℕ → List ℕ
 two_bytes n = n % 256 ∷ n / 256 ∷ []
 
@@ -55,8 +56,9 @@ two_bytes n = n % 256 ∷ n / 256 ∷ []
 abbrev pub flags : (weak immediate : Bool) → ℕ
 flags w i = cond w 1 0 + cond i 2 0
 
--- Each statement: command byte, operands, lengths of its blocks, its blocks.
+-- How statements and blocks are written.
 abbrev mutual
+  -- A statement is its command byte, its operands, the lengths of its blocks and its blocks.
   pub statement_bytes : {A : Type 0} → Stmt A → List ℕ
   statement_bytes (nothing a) = form_byte Form.Nothing ∷ []
   statement_bytes (assign a v e) = form_byte Form.Set ∷ v ∷ expression_bytes e

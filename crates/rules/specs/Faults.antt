@@ -14,6 +14,7 @@ abbrev pub reading_number : ReadingFault → ℕ
 reading_number (Cut p) = 2
 reading_number (Unknown p) = 5
 
+-- A fault of reading is at the byte that it carries.
 abbrev pub reading_place : ReadingFault → ℕ
 reading_place (Cut p) = p
 reading_place (Unknown p) = p
@@ -26,6 +27,7 @@ statement_number (WrongVariable p) = 7
 statement_number (OverLimit p) = 8
 statement_number (MayNotPause p) = 9
 
+-- A fault of reading keeps its place; a statement's own fault is at the byte that it carries.
 abbrev pub statement_place : StatementFault → ℕ
 statement_place (Reading f) = reading_place f
 statement_place (BadExpression p) = p
@@ -33,6 +35,7 @@ statement_place (WrongVariable p) = p
 statement_place (OverLimit p) = p
 statement_place (MayNotPause p) = p
 
+-- What reading found belongs to the reading layer, a statement's own fault to the statement layer.
 abbrev pub statement_layer : StatementFault → Layer
 statement_layer (Reading f) = Layer.Reading
 statement_layer (BadExpression p) = Layer.Statement

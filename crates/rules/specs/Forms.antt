@@ -4,6 +4,7 @@ use Rattle.rules.specs.Text.{Expression, Stmt, nothing, assign, pause, branch, l
 use Rattle.rules.specs.declared.program.Form.{Form}
 use Rattle.rules.specs.declared.program.Form.TheVariants.{Nothing, Set, Pause, If, Loop, Par, Abort}
 
+-- The seven forms, in the order of their command bytes.
 abbrev pub forms : List Form
 forms = Nothing ∷ Set ∷ Pause ∷ If ∷ Loop ∷ Par ∷ Abort ∷ []
 
@@ -17,6 +18,7 @@ has_byte Loop = true
 has_byte Par = false
 has_byte Abort = true
 
+-- A set, an if, a loop and an abort have an expression.
 abbrev pub has_expression : Form → Bool
 has_expression Nothing = false
 has_expression Set = true
@@ -26,6 +28,7 @@ has_expression Loop = true
 has_expression Par = false
 has_expression Abort = true
 
+-- An if, a loop, a par and an abort have a block.
 abbrev pub has_block : Form → Bool
 has_block Nothing = false
 has_block Set = false
@@ -35,6 +38,7 @@ has_block Loop = true
 has_block Par = true
 has_block Abort = true
 
+-- An if and a par have a second block.
 abbrev pub has_second_block : Form → Bool
 has_second_block Nothing = false
 has_second_block Set = false
@@ -44,7 +48,7 @@ has_second_block Loop = false
 has_second_block Par = true
 has_second_block Abort = false
 
--- How many pars a statement of the form is.
+-- A par is one par, a statement of another form none.
 abbrev pub par_count : Form → ℕ
 par_count Nothing = 0
 par_count Set = 0

@@ -4,7 +4,7 @@ use Rattle.rules.specs.Numbering.{Step, Text}
 use Rattle.rules.specs.Text.{nothing, assign, pause, branch, loop, par, abort, end, ◌then◌}
 use Rattle.rules.specs.Threads.{After, leave, on, again, out_of, at, at_end, State, ready, out, Memo, Own, Arms, no_arms, both, Thread, thread, is}
 
--- A function that gives a at n.
+-- A function that gives a at n, and elsewhere what it gave before.
 abbrev pub put {ℓ} : {A : Type ℓ} → ℕ → A → (ℕ → A) → ℕ → A
 put n a f m = cond (m == n) a (f m)
 
@@ -16,9 +16,11 @@ weak_abort (again m bound e X B k) marks = weak_abort k marks
 weak_abort (out_of m w e B k) marks = elim (w && marks m.number) [ true ↦ Some (B, k) | false ↦ weak_abort k marks ]
 
 module _ {V : Type 0} where
+  -- The loop of number n has p passes left; all else stays.
   abbrev pub with_passes : (n p : ℕ) → Memo V → Memo V
   with_passes n p m = record { values = m.values; sets = m.sets; passes = put n p m.passes; marks = m.marks }
 
+  -- The abort of number n has mark h; all else stays.
   abbrev pub with_mark : (n : ℕ) → Bool → Memo V → Memo V
   with_mark n h m = record { values = m.values; sets = m.sets; passes = m.passes; marks = put n h m.marks }
 

@@ -59,6 +59,7 @@ module _ {V : Type 0} (M : Meaning V) where
     join_mark m a b v =
         get_or m.sets v false || (takes_part a.state && get_or a.memo.sets v false) || (takes_part b.state && get_or b.memo.sets v false)
 
+    -- The parent takes the joined values and set marks; its passes left and abort marks stay.
     abbrev pub joined : Memo V → (first second : Own V) → Memo V
     joined m a b = record { values = for_each ds 0 (join_at m a b); sets = for_each ds 0 (join_mark m a b); passes = m.passes; marks = m.marks }
 

@@ -11,8 +11,9 @@ abbrev pub loop_length : (bound block : ℕ) → ℕ
 loop_length zero x = 1 + 2 * x
 loop_length (suc n) x = (suc n + 1) + suc n * x
 
--- The most steps that a statement takes in a tick.
+-- The most steps that statements and blocks take in a tick.
 abbrev mutual
+  -- 1 for nothing, set and pause; 1 + the longer block for if; 3 + both arms for par; 1 + block for abort; a loop by its bound.
   pub length_of : {A : Type 0} → Stmt A → ℕ
   length_of (nothing a) = 1
   length_of (assign a v e) = 1
@@ -31,8 +32,9 @@ abbrev mutual
 abbrev pub tick_length : Program → ℕ
 tick_length p = block_length p.main + 1
 
--- Pause always pauses; an if does when both blocks do; a par when either arm does; nothing else does.
+-- Which statements and blocks pause on every way through.
 abbrev mutual
+  -- Pause always pauses; an if does when both blocks do; a par when either arm does; nothing else does.
   pub pauses : {A : Type 0} → Stmt A → Bool
   pauses (nothing a) = false
   pauses (assign a v e) = false

@@ -1,6 +1,7 @@
 pub mod Calls
 pub mod Encoding
 pub mod Faults
+pub mod FirstFault
 pub mod Forms
 pub mod Going
 pub mod Joining

@@ -11,22 +11,25 @@ pub record Mark : Type 0 where
   pub thread : ℕ
   pub next : ℕ
 
--- A statement and a block as they are run.
+-- A statement as it is run carries its mark.
 abbrev pub Step : Type 0
 Step = Stmt Mark
 
+-- A block as it is run: each of its statements carries its mark.
 abbrev pub Text : Type 0
 Text = Block Mark
 
--- The thread numbers of a par's two arms.
+-- A par's first arm takes the next thread number.
 abbrev pub first_arm : Mark → ℕ
 first_arm m = m.next
 
+-- A par's second arm takes the number after the first arm and all arms inside that.
 abbrev pub second_arm : Mark → Text → ℕ
 second_arm m X = m.next + 1 + arms X
 
 -- n is the number, p the place, t the thread of the first statement, u the number that the next arm takes.
 abbrev mutual
+  -- The blocks of a statement are numbered after it; an arm is a thread of its own, another block is its statement's thread's.
   pub number_statement : (n p t u : ℕ) → Stmt (Unit {0}) → Step
   number_statement n p t u (nothing a) = nothing (record { number = n; place = p; thread = t; next = u })
   number_statement n p t u (assign a v e) = assign (record { number = n; place = p; thread = t; next = u }) v e
@@ -46,6 +49,7 @@ abbrev mutual
       abort (record { number = n; place = p; thread = t; next = u }) w i e
       (number_block (n + 1) (p + head_size (abort a w i e X) (length (block_bytes X))) t u X)
 
+  -- Each statement of a block is numbered after the one before it and all that stands inside that.
   pub number_block : (n p t u : ℕ) → Block (Unit {0}) → Text
   number_block n p t u end = end
   number_block n p t u (s then B) =

@@ -31,10 +31,11 @@ module _ {V : Type 0} (M : Meaning V) where
   ]
 
   module _ (ds : List Variable) (stores : List V) where
-    -- Fresh, paused and held threads copy all shared stores and clear their set marks.
+    -- A copy of a shared variable takes what the store holds; a private stays.
     abbrev pub copied_value : Memo V → ℕ → V
     copied_value m v = cond (is_shared (declared ds v).kind) (slice_index_or stores v (zero_value M)) (slice_index_or m.values v (zero_value M))
 
+    -- Fresh, paused and held threads copy all shared stores and clear their set marks; passes left and abort marks stay.
     abbrev pub copied : Memo V → Memo V
     copied m = record { values = for_each ds 0 (copied_value m); sets = for_each ds 0 (λ v. false); passes = m.passes; marks = m.marks }
 

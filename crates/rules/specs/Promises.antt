@@ -1,9 +1,10 @@
 -- The promises that the rules are proved to keep. docs/PROMISES.md says which of them stand on a contract.
-use Rattle.std.specs.Prelude.{◌≡◌, ℕ, ◌<◌, ◌≤◌, true, false, ◌≢◌, ◌⊎◌, ◌↔◌, List, Ok}
+use Rattle.std.specs.Prelude.{◌≡◌, ℕ, ◌<◌, ◌≤◌, true, false, ◌≢◌, ◌⊎◌, ◌↔◌, List, Ok, Err}
 use Rattle.std.specs.List.{AllByRecursion}
 use Rattle.arithmetic.specs.Meaning.{Meaning}
 use Rattle.rules.specs.Calls.{Call, step_thread, close, finish, steps, Machine, empty, running, rates_of, perform}
 use Rattle.rules.specs.Encoding.{encode}
+use Rattle.rules.specs.FirstFault.{read_in_order, SameThrough}
 use Rattle.rules.specs.Lengths.{tick_length}
 use Rattle.rules.specs.Reading.{read}
 use Rattle.rules.specs.Report.{sum_of}
@@ -12,6 +13,7 @@ use Rattle.rules.specs.Stepping.{ready?, step}
 use Rattle.rules.specs.Text.{Program}
 use Rattle.rules.specs.Threads.{Thread}
 use Rattle.rules.specs.Valid.{Valid}
+use Rattle.rules.specs.declared.faults.LoadFault.{LoadFault}
 use Rattle.rules.specs.declared.program.Variable.{Variable}
 
 -- ── loading ──
@@ -19,6 +21,10 @@ use Rattle.rules.specs.declared.program.Variable.{Variable}
 -- Loading accepts exactly the valid programs, each by the bytes that it is written as.
 abbrev pub LoadingAcceptsTheValid : Type 0
 LoadingAcceptsTheValid = (bs : List ℕ) (p : Program) → AllByRecursion (λ b. b < 256) bs → (read bs ≡ Ok p) ↔ (Valid p × (encode p ≡ bs))
+
+-- The fault that loading names is the first: bytes in which it is met in order are refused by it, and so are all equally long ones that are the same before its place and in the 261 bytes from there on, whatever comes after them.
+abbrev pub TheFirstFaultIsNamed : Type 0
+TheFirstFaultIsNamed = (bs bs' : List ℕ) (f : LoadFault) → AllByRecursion (λ b. b < 256) bs → read_in_order bs ≡ Err f → SameThrough f bs bs' → (read bs ≡ Err f) × (read bs' ≡ Err f)
 
 -- ── the order of steps ──
 

@@ -25,16 +25,19 @@ use Rattle.rules.specs.declared.program.Kind.{Kind}
 use Rattle.rules.specs.declared.program.Policy.{Policy}
 use Rattle.rules.specs.declared.program.Variable.{Variable}
 
--- A program has at most 4,096 bytes, 512 statements, 15 pars and 16 nested blocks.
+-- A program has at most 4,096 bytes.
 abbrev pub most_bytes : ℕ
 most_bytes = 4096
 
+-- A program has at most 512 statements.
 abbrev pub most_statements : ℕ
 most_statements = 512
 
+-- A program has at most 15 pars.
 abbrev pub most_pars : ℕ
 most_pars = 15
 
+-- At most 16 blocks are nested, main's counted.
 abbrev pub most_nested : ℕ
 most_nested = 16
 
@@ -87,28 +90,32 @@ pub record Parts : Type 0 where
   pub after : List ℕ
 
 module _ (p : ℕ) where
-  -- Bytes or blocks past the enclosing end are a cut, at the statement's place p.
+  -- The operand byte of a statement, 0 if it has none; past the enclosing end it is a cut, at the statement's place p.
   abbrev pub byte_in : Bool → List ℕ → Result (ℕ × List ℕ) ReadingFault
   byte_in false bs = Ok (0, bs)
   byte_in true [] = Err (Cut p)
   byte_in true (b ∷ bs) = Ok (b, bs)
 
+  -- The next n bytes, and those after them; past the enclosing end they are a cut at p.
   abbrev pub part_in : ℕ → List ℕ → Result (List ℕ × List ℕ) ReadingFault
   part_in n bs = do
     _ ← ensure (nat_le n (length bs)) (Cut p)
     Ok (take n bs, drop n bs)
 
+  -- An expression's bytes, as many as its length byte says, none without an expression; past the enclosing end they are a cut at p.
   abbrev pub code_in : Bool → List ℕ → Result (List ℕ × List ℕ) ReadingFault
   code_in false bs = Ok ([], bs)
   code_in true [] = Err (Cut p)
   code_in true (n ∷ bs) = part_in n bs
 
+  -- A block's length in two bytes, the low one first, 0 without a block; past the enclosing end they are a cut at p.
   abbrev pub length_in : Bool → List ℕ → Result (ℕ × List ℕ) ReadingFault
   length_in false bs = Ok (0, bs)
   length_in true [] = Err (Cut p)
   length_in true (a ∷ []) = Err (Cut p)
   length_in true (a ∷ b ∷ bs) = Ok (a + b * 256, bs)
 
+  -- In this order: operand byte, expression, lengths, blocks, as far as the form has them.
   abbrev pub parts_in : Form → List ℕ → Result Parts ReadingFault
   parts_in k bs = do
     o ← byte_in (has_byte k) bs
@@ -129,16 +136,19 @@ pub record Counts : Type 0 where
   pub pars : ℕ
   pub threads : ℕ
 
+-- Before main's block nothing is counted, and the first arm takes number 1.
 abbrev pub start : Counts
 start = record { statements = 0; pars = 0; threads = 1 }
 
+-- A statement is counted with all that stands inside it; each par takes two thread numbers.
 abbrev pub after_statement : {A : Type 0} → Stmt A → Counts → Counts
 after_statement s a = record { statements = a.statements + count_of s; pars = a.pars + pars_of s; threads = a.threads + arms_of s }
 
--- Before the first block of a statement, and before its second.
+-- Before its first block a statement is counted itself; a par has taken its first arm's number.
 abbrev pub before_first : Form → Counts → Counts
 before_first k a = record { statements = a.statements + 1; pars = a.pars + par_count k; threads = a.threads + par_count k }
 
+-- Before its second block the first is counted too; a par has taken its second arm's number.
 abbrev pub before_second : {A : Type 0} → Form → Block A → Counts → Counts
 before_second k X a = record {
   statements = a.statements + 1 + count X;
@@ -170,6 +180,7 @@ set_right ds t Form.Loop o = true
 set_right ds t Form.Par o = true
 set_right ds t Form.Abort o = true
 
+-- A statement that has an expression reads it; another has none.
 abbrev pub expression_of : List Variable → (t from at : ℕ) → Bool → List ℕ → Result Expression StatementFault
 expression_of ds t from at false bs = Ok []
 expression_of ds t from at true bs = read_expression ds t from at bs
@@ -224,12 +235,15 @@ read_block ds (suc n) t a e bs = read_statements ds n (read_block ds n) t (lengt
 
 -- ── declarations ──
 
+-- The four kinds, in the order of their numbers.
 abbrev pub kinds : List Kind
 kinds = Kind.Input ∷ Kind.Private ∷ Kind.Shared ∷ Kind.Output ∷ []
 
+-- The three policies, in the order of their numbers.
 abbrev pub policies : List Policy
 policies = Policy.All ∷ Policy.New ∷ Policy.Mod ∷ []
 
+-- The four operators that combine two copies, in the order of their numbers.
 abbrev pub combinings : List Combining
 combinings = Sum ∷ Least ∷ Greatest ∷ Left ∷ []
 
@@ -282,6 +296,7 @@ idle bound X = bound == 0 && not (must_pause X)
 
 -- In byte order, each pausing loop always pauses: p is the place, n the number, t the thread of the statement, u the number that the next arm takes.
 abbrev mutual
+  -- A pausing loop whose block may not pause is a fault at the loop; its block comes after it.
   pub statement_pauses : (p n t u : ℕ) → Stmt (Unit {0}) → Result (Unit {0}) LoadFault
   statement_pauses p n t u (nothing a) = Ok tt
   statement_pauses p n t u (assign a v e) = Ok tt
@@ -297,6 +312,7 @@ abbrev mutual
     loops_pause (p + head_size (par a X Y) (length (block_bytes Y))) (n + 1 + count X) (u + 1 + arms X) (u + 2 + arms X) Y
   statement_pauses p n t u (abort a w i e X) = loops_pause (p + head_size (abort a w i e X) (length (block_bytes X))) (n + 1) t u X
 
+  -- The statements of a block, one after the other.
   pub loops_pause : (p n t u : ℕ) → Block (Unit {0}) → Result (Unit {0}) LoadFault
   loops_pause p n t u end = Ok tt
   loops_pause p n t u (s then B) = do

@@ -12,18 +12,21 @@ is_shared Private = false
 is_shared Shared = true
 is_shared Output = true
 
+-- Inputs are of kind 0; their stores take the readings.
 abbrev pub is_input : Kind → Bool
 is_input Input = true
 is_input Private = false
 is_input Shared = false
 is_input Output = false
 
+-- Privates are of kind 1; each belongs to one thread.
 abbrev pub is_private : Kind → Bool
 is_private Input = false
 is_private Private = true
 is_private Shared = false
 is_private Output = false
 
+-- Outputs are of kind 3: shared variables that are reported.
 abbrev pub is_output : Kind → Bool
 is_output Input = false
 is_output Private = false

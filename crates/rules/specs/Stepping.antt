@@ -18,17 +18,21 @@ may_enter (suc n) (suc p) = true
 
 -- ── which threads are ready ──
 
+-- Below a thread that waits at no par none is ready; else `down` tells of the par that it waits at.
 abbrev pub ready_via : (ℕ → Bool) → Option ℕ → Bool
 ready_via down None = false
 ready_via down (Some a) = down a
 
+-- Thread t is ready at or below thread x: at x by its state, below it by the par that it waits at.
 abbrev pub ready_in : (x t : ℕ) → (ℕ → Bool) → State → Bool
 ready_in x t down s = elim (t == x) [ true ↦ is_ready s | false ↦ ready_via down (waits s) ]
 
+-- The first number if there is one, else the second.
 abbrev pub first_of : Option ℕ → Option ℕ → Option ℕ
 first_of None o = o
 first_of (Some t) o = Some t
 
+-- At or below thread x: itself if it is ready, what is below its par if it waits, else none.
 abbrev pub lowest_in : ℕ → (ℕ → Option ℕ) → State → Option ℕ
 lowest_in x down fresh = None
 lowest_in x down (ready p) = Some x
@@ -52,6 +56,7 @@ module _ {V : Type 0} where
   abbrev pub ready? : ℕ → Thread V → Bool
   ready? t main = ready_in 0 t (ready_below main.below t) main.own.state
 
+  -- Below the par whose first arm is n, the first arm's threads come before the second's.
   abbrev pub lowest_below : Arms V → ℕ → Option ℕ
   lowest_below no_arms n = None
   lowest_below (both a b l L r R rest) n = elim (n == a) [
@@ -63,9 +68,11 @@ module _ {V : Type 0} where
   abbrev pub lowest : Thread V → Option ℕ
   lowest main = lowest_in 0 (lowest_below main.below) main.own.state
 
+  -- The first arm of a par, with all below it, becomes th; all else stays.
   abbrev pub set_first : (a b : ℕ) → Thread V → Own V → Arms V → Arms V → Arms V
   set_first a b th r R rest = both a b th.own th.below r R rest
 
+  -- The second arm of a par, with all below it, becomes th; all else stays.
   abbrev pub set_second : (a b : ℕ) → Own V → Arms V → Thread V → Arms V → Arms V
   set_second a b l L th rest = both a b l L th.own th.below rest
 
@@ -79,10 +86,11 @@ module _ {V : Type 0} (M : Meaning V) (ds : List Variable) where
     marks = m.marks;
   }
 
-  -- An arm begins with the thread's copies and no set marks; privates are not copied.
+  -- An arm takes the parent's copy of a shared variable; its private stays.
   abbrev pub arm_value : (parent arm : Memo V) → ℕ → V
   arm_value parent m v = cond (is_shared (declared ds v).kind) (slice_index_or parent.values v (zero_value M)) (slice_index_or m.values v (zero_value M))
 
+  -- An arm begins with the parent's copies and no set marks; privates are not copied, passes left and abort marks stay.
   abbrev pub arm_memo : (parent arm : Memo V) → Memo V
   arm_memo parent m = record {
     values = for_each ds 0 (arm_value parent m);
@@ -91,6 +99,7 @@ module _ {V : Type 0} (M : Meaning V) (ds : List Variable) where
     marks = m.marks;
   }
 
+  -- An arm begins ready at its first statement, or at its end if it has none.
   abbrev pub begins : Memo V → Text → Own V → Own V
   begins parent X o = go_on X leave (arm_memo parent o.memo)
 
@@ -125,14 +134,16 @@ module _ {V : Type 0} (M : Meaning V) (ds : List Variable) where
     own_step past m F = thread (is past m) F
     own_step out m F = thread (is out m) F
 
-    -- The step of thread t goes down through waiting threads to t, and joins on the way back.
+    -- Below a waiting thread the step is done first, then the thread joins if it can; a thread that waits at no par stays.
     abbrev pub step_via : (ℕ → Arms V) → Option ℕ → Own V → Arms V → Thread V
     step_via down None o F = thread o F
     step_via down (Some a) o F = settle M ds o.state o.memo (down a)
 
+    -- The step of thread t goes down through waiting threads to t, and joins on the way back.
     abbrev pub step_in : (x t : ℕ) → (ℕ → Arms V) → Own V → Arms V → Thread V
     step_in x t down o F = elim (t == x) [ true ↦ own_step o.state o.memo F | false ↦ step_via down (waits o.state) o F ]
 
+    -- Below the par whose first arm is n, numbers under the second arm's are in the first arm, others in the second.
     abbrev pub step_below : Arms V → (t n : ℕ) → Arms V
     step_below no_arms t n = no_arms
     step_below (both a b l L r R rest) t n = elim (n == a) [

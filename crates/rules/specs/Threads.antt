@@ -29,6 +29,7 @@ pub record Memo (V : Type 0) : Type 0 where
   pub passes : ℕ → ℕ
   pub marks : ℕ → Bool
 
+-- A thread's state, and what belongs to it; threads below it are kept apart.
 pub record Own (V : Type 0) : Type 0 where
   pub state : State
   pub memo : Memo V
@@ -92,6 +93,7 @@ takes_part ended = true
 takes_part past = false
 takes_part out = true
 
+-- Ready: what a thread has to be for a step.
 abbrev pub is_ready : State → Bool
 is_ready fresh = false
 is_ready (ready p) = true
@@ -102,6 +104,7 @@ is_ready ended = false
 is_ready past = false
 is_ready out = false
 
+-- Ended: what main must not be for an opening.
 abbrev pub is_ended : State → Bool
 is_ended fresh = false
 is_ended (ready p) = false
@@ -124,8 +127,10 @@ waits past = None
 waits out = None
 
 module _ {V : Type 0} where
+  -- A thread of what it has itself and the arms below it.
   abbrev pub thread : Own V → Arms V → Thread V
   thread o F = record { own = o; below = F }
 
+  -- A thread is in state s, and m belongs to it.
   abbrev pub is : State → Memo V → Own V
   is s m = record { state = s; memo = m }

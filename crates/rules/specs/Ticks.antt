@@ -27,10 +27,11 @@ module _ {V : Type 0} (M : Meaning V) (ds : List Variable) where
     | false ↦ elim (lowest th) [ None ↦ (c, th) | Some t ↦ run_on fuel (suc c) ss (step M ds ss t th) ]
   ]
 
-  -- Closing moves main's copies of shared variables into the stores.
+  -- The store of a shared variable takes main's copy; another store stays.
   abbrev pub closed_store : Config V → ℕ → V
   closed_store σ v = cond (is_shared (declared ds v).kind) (slice_index_or σ.main.own.memo.values v (zero_value M)) (slice_index_or σ.stores v (zero_value M))
 
+  -- Closing moves main's copies of shared variables into the stores; the threads stay as they are.
   abbrev pub closing : Config V → Config V
   closing σ = record { stores = for_each ds 0 (closed_store σ); main = σ.main }
 
@@ -54,8 +55,9 @@ module _ {V : Type 0} (M : Meaning V) (ds : List Variable) where
   abbrev pub new_memo : (thread : ℕ) → Memo V
   new_memo t = record { values = for_each ds 0 (initial_value t); sets = for_each ds 0 (λ v. false); passes = λ n. 0; marks = λ n. false }
 
-  -- All arms of a text are out.
+  -- The arms of a text at a load: all are out.
   abbrev mutual
+    -- A par has its two arms, each with the arms inside it; another statement has the arms of its blocks.
     pub arms_in : Step → Arms V
     arms_in (nothing a) = no_arms
     arms_in (assign a v e) = no_arms
@@ -66,6 +68,7 @@ module _ {V : Type 0} (M : Meaning V) (ds : List Variable) where
         both (first_arm a) (second_arm a X) (is out (new_memo (first_arm a))) (arms_of_text X) (is out (new_memo (second_arm a X))) (arms_of_text Y) no_arms
     arms_in (abort a w i e X) = arms_of_text X
 
+    -- A block has the arms of its statements, in the order of the text.
     pub arms_of_text : Text → Arms V
     arms_of_text end = no_arms
     arms_of_text (s then B) = ◌then_arms◌ (arms_in s) (arms_of_text B)

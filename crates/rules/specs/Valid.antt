@@ -32,8 +32,9 @@ StacksRight ds t d (c ∷ cs) = (takes c ≤ d) × (d - takes c + 1 ≤ deepest)
 abbrev pub RightExpression : List Variable → (t : ℕ) → Expression → Type 0
 RightExpression ds t e = (length (written e) ≤ longest) × StacksRight ds t 0 e
 
--- Statements of thread t, with u the number that the next arm takes: expressions are right, and each set names a variable that its thread sets.
+-- Statements and blocks of thread t, with u the number that the next arm takes.
 abbrev mutual
+  -- A set names a variable that its thread sets, a loop's bound is a byte, expressions are right, and so are the blocks.
   pub RightStatement : List Variable → (t u : ℕ) → Stmt (Unit {0}) → Type 0
   RightStatement ds t u (nothing a) = Unit {0}
   RightStatement ds t u (assign a v e) = (settable ds t v ≡ true) × RightExpression ds t e
@@ -43,12 +44,14 @@ abbrev mutual
   RightStatement ds t u (par a X Y) = RightBlock ds u (u + 1) X × RightBlock ds (u + 1 + arms X) (u + 2 + arms X) Y
   RightStatement ds t u (abort a w i e X) = RightExpression ds t e × RightBlock ds t u X
 
+  -- Each statement is right, and takes the arm numbers after those before it.
   pub RightBlock : List Variable → (t u : ℕ) → Block (Unit {0}) → Type 0
   RightBlock ds t u end = Unit {0}
   RightBlock ds t u (s then B) = RightStatement ds t u s × RightBlock ds t (u + arms_of s) B
 
--- The block of each pausing loop always pauses.
+-- In statements and blocks, the block of each pausing loop always pauses.
 abbrev mutual
+  -- A loop of bound 0 has a block that always pauses; inside all blocks it is the same.
   pub PausingStatement : Stmt (Unit {0}) → Type 0
   PausingStatement (nothing a) = Unit {0}
   PausingStatement (assign a v e) = Unit {0}
@@ -58,10 +61,12 @@ abbrev mutual
   PausingStatement (par a X Y) = Pausing X × Pausing Y
   PausingStatement (abort a w i e X) = Pausing X
 
+  -- It is so of each statement.
   pub Pausing : Block (Unit {0}) → Type 0
   Pausing end = Unit {0}
   Pausing (s then B) = PausingStatement s × Pausing B
 
+-- The limits are kept, declarations and statements are right, pausing loops pause, a tick is not too long.
 pub record Valid (p : Program) : Type 0 where
   pub short_enough : length (encode p) ≤ most_bytes
   pub few_variables : length p.variables ≤ most_variables

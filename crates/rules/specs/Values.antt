@@ -18,6 +18,7 @@ use Rattle.rules.specs.declared.program.Variable.{Variable}
 abbrev pub undeclared : Variable
 undeclared = record { kind = Kind.Input; policy = Policy.All; operator = Sum; owner = 0; initial = pos 0; low = pos 0; high = pos 0 }
 
+-- The declaration of variable v.
 abbrev pub declared : List Variable → ℕ → Variable
 declared ds v = slice_index_or ds v undeclared
 
@@ -48,5 +49,6 @@ module _ {V : Type 0} (M : Meaning V) where
     abbrev pub value : Memo V → Expression → V
     value m e = value_or_zero (and_then (run M (λ v. Some (variable_value m v)) (map unplaced e) []) only)
 
+    -- A thread's condition holds when the value of its expression does not show 0.
     abbrev pub holds : Memo V → Expression → Bool
     holds m e = condition (value m e)

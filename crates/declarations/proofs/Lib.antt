@@ -1,0 +1,5 @@
+pub mod Known
+pub mod Held
+pub mod InOrder
+pub mod Owners
+pub mod Onward

@@ -1,0 +1,3 @@
+-- The definitions that the contracts of declarations cite.
+pub mod Declaring
+pub mod Listing

@@ -1,12 +1,8 @@
 -- What an arithmetic means: six functions, and the laws that they keep.
-use Prim.Native.Nat.{ℕ, _≤_}
-use mathlib.Core.Path.{_≡_}
-use lib.IntN.{ℤ, _-ℤ_, natAbs}
-use lib.Signed.{_≤ℤ_}
-use mir.Syntax.{w32}
-use mir.Val.{SFits}
-use Rattle·arithmetic·specs.declared.operators.Operator.{Operator}
-use Rattle·arithmetic·specs.declared.operators.Combining.{Combining}
+use Rattle.std.specs.Prelude.{◌≡◌, ℕ, ◌≤◌, ℤ, ◌-ℤ◌, ◌≤ℤ◌, FitsSigned, unsigned_abs}
+use Rattle.std.specs.Int.{w32}
+use Rattle.arithmetic.specs.declared.operators.Operator.{Operator}
+use Rattle.arithmetic.specs.declared.operators.Combining.{Combining}
 
 -- An operator with the values that it takes: two (the earlier stacked value is the first), or one for `not`.
 pub data Operation (V : Type 0) : Type 0 where
@@ -30,7 +26,7 @@ pub record Meaning (V : Type 0) : Type 0 where
 
 -- The distance of two numbers is the magnitude of their difference.
 abbrev pub distance : ℤ → ℤ → ℕ
-distance a b = natAbs (a -ℤ b)
+distance a b = unsigned_abs (a -ℤ b)
 
 -- Of the numbers from low to high, r is the nearest to z.
 pub record Nearest (low high z r : ℤ) : Type 0 where
@@ -41,12 +37,12 @@ pub record Nearest (low high z r : ℤ) : Type 0 where
 module _ {V : Type 0} (M : Meaning V) where
   -- A constant shows itself.
   abbrev pub Constants-show-themselves : Type 0
-  Constants-show-themselves = (n : ℤ) → SFits w32 n → M .shows (M .constant n) ≡ n
+  Constants-show-themselves = (n : ℤ) → FitsSigned w32 n → M.shows (M.constant n) ≡ n
 
   -- A reading shows itself.
   abbrev pub Readings-show-themselves : Type 0
-  Readings-show-themselves = (i : ℕ) (n : ℤ) → SFits w32 n → M .shows (M .reading i n) ≡ n
+  Readings-show-themselves = (i : ℕ) (n : ℤ) → FitsSigned w32 n → M.shows (M.reading i n) ≡ n
 
   -- A limited value shows the number from low to high that is nearest to the one shown before.
   abbrev pub Limits-to-the-nearest : Type 0
-  Limits-to-the-nearest = (low high : ℤ) (x : V) → low ≤ℤ high → Nearest low high (M .shows x) (M .shows (M .limited low high x))
+  Limits-to-the-nearest = (low high : ℤ) (x : V) → low ≤ℤ high → Nearest low high (M.shows x) (M.shows (M.limited low high x))

@@ -1,10 +1,9 @@
 -- The numbers by which programs name the operators.
-use Prim.Native.Nat.{ℕ}
-use mathlib.Core.Path.{_≡_}
-use Rattle·arithmetic·specs.declared.operators.Operator.{Operator}
-use Rattle·arithmetic·specs.declared.operators.Operator.the-variants.{Add, Subtract, Multiply, Lesser, Greater, LessThan, Equal}
-use Rattle·arithmetic·specs.declared.operators.Combining.{Combining}
-use Rattle·arithmetic·specs.declared.operators.Combining.the-variants.{Sum, Least, Greatest, Left}
+use Rattle.std.specs.Prelude.{◌≡◌, ℕ, ◌≢◌}
+use Rattle.arithmetic.specs.declared.operators.Operator.{Operator}
+use Rattle.arithmetic.specs.declared.operators.Operator.TheVariants.{Add, Subtract, Multiply, Lesser, Greater, LessThan, Equal}
+use Rattle.arithmetic.specs.declared.operators.Combining.{Combining}
+use Rattle.arithmetic.specs.declared.operators.Combining.TheVariants.{Sum, Least, Greatest, Left}
 
 -- The operators on two values have the command bytes 0x42 to 0x48.
 abbrev pub operator-byte : Operator → ℕ
@@ -17,8 +16,8 @@ operator-byte LessThan = 0x47
 operator-byte Equal = 0x48
 
 -- The operator `not`, which takes one value, has the command byte 0x49.
-abbrev pub not-byte : ℕ
-not-byte = 0x49
+abbrev pub not_byte : ℕ
+not_byte = 0x49
 
 -- In a declaration 0 stands for sum, 1 for least, 2 for greatest and 3 for left.
 abbrev pub combining-number : Combining → ℕ
@@ -29,8 +28,8 @@ combining-number Left = 3
 
 -- A byte is no operator's if it is the command byte of none on two values.
 abbrev pub No-operator : ℕ → Type 0
-No-operator b = (o : Operator) → operator-byte o ≡ b → ⊥
+No-operator b = (o : Operator) → operator-byte o ≢ b
 
 -- A number is no combining operator's if it stands for none of the four.
 abbrev pub No-combining : ℕ → Type 0
-No-combining n = (o : Combining) → combining-number o ≡ n → ⊥
+No-combining n = (o : Combining) → combining-number o ≢ n

@@ -1,17 +1,15 @@
 -- The plain arithmetic: signed 32-bit numbers.
-use mathlib.Core.Bool.{Bool, true, false, cond, not, _&&_}
-use lib.IntN.{ℤ, pos, _+ℤ_, _-ℤ_, _*ℤ_}
-use lib.Signed.{ltZ}
-use Rattle·std.specs.Numbers.{minZ, maxZ, saturated}
-use Rattle·arithmetic·specs.Meaning.{Meaning, Operation, two, inverse}
-use Rattle·arithmetic·specs.declared.operators.Operator.{Operator}
-use Rattle·arithmetic·specs.declared.operators.Operator.the-variants.{Add, Subtract, Multiply, Lesser, Greater, LessThan, Equal}
-use Rattle·arithmetic·specs.declared.operators.Combining.{Combining}
-use Rattle·arithmetic·specs.declared.operators.Combining.the-variants.{Sum, Least, Greatest, Left}
+use Rattle.std.specs.Prelude.{Bool, true, false, cond, not, ◌&&◌, ℤ, pos, ◌+ℤ◌, ◌-ℤ◌, ◌*ℤ◌, int_lt}
+use Rattle.std.specs.Int.{int_min, int_max, saturate_to_bits}
+use Rattle.arithmetic.specs.Meaning.{Meaning, Operation, two, inverse}
+use Rattle.arithmetic.specs.declared.operators.Operator.{Operator}
+use Rattle.arithmetic.specs.declared.operators.Operator.TheVariants.{Add, Subtract, Multiply, Lesser, Greater, LessThan, Equal}
+use Rattle.arithmetic.specs.declared.operators.Combining.{Combining}
+use Rattle.arithmetic.specs.declared.operators.Combining.TheVariants.{Sum, Least, Greatest, Left}
 
 -- A result outside the range stops at its end: -2^31 or 2^31 - 1.
 abbrev pub stopped : ℤ → ℤ
-stopped z = saturated 31 z
+stopped z = saturate_to_bits 31 z
 
 -- A test gives 1 where it holds and 0 where it does not.
 abbrev pub truth : Bool → ℤ
@@ -20,16 +18,16 @@ truth false = pos 0
 
 -- Two numbers are the same if neither is less than the other.
 abbrev pub same : ℤ → ℤ → Bool
-same a b = not (ltZ a b) && not (ltZ b a)
+same a b = not (int_lt a b) && not (int_lt b a)
 
 -- Sum, difference and product stop at the ends of the range; then the lesser, the greater, and 1 or 0 for first < second and for equal.
 abbrev pub plain-two : Operator → ℤ → ℤ → ℤ
 plain-two Add a b = stopped (a +ℤ b)
 plain-two Subtract a b = stopped (a -ℤ b)
 plain-two Multiply a b = stopped (a *ℤ b)
-plain-two Lesser a b = minZ a b
-plain-two Greater a b = maxZ a b
-plain-two LessThan a b = truth (ltZ a b)
+plain-two Lesser a b = int_min a b
+plain-two Greater a b = int_max a b
+plain-two LessThan a b = truth (int_lt a b)
 plain-two Equal a b = truth (same a b)
 
 -- `not` gives 1 for 0, else 0.
@@ -43,13 +41,13 @@ plain-operated (inverse a) = plain-not a
 
 -- Over high is high, then under low is low.
 abbrev pub clamped : (low high z : ℤ) → ℤ
-clamped low high z = maxZ low (minZ z high)
+clamped low high z = int_max low (int_min z high)
 
 -- The sum, stopped at the ends of the range, the lesser or the greater of two copies, or the first copy.
 abbrev pub plain-combined : Combining → ℤ → ℤ → ℤ
 plain-combined Sum a b = stopped (a +ℤ b)
-plain-combined Least a b = minZ a b
-plain-combined Greatest a b = maxZ a b
+plain-combined Least a b = int_min a b
+plain-combined Greatest a b = int_max a b
 plain-combined Left a b = a
 
 -- Constants and readings are numbers, and a number shows itself; the other functions are the definitions above.

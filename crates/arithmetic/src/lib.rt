@@ -1,7 +1,6 @@
 //! Arithmetics: what a value is, what the operators do to values, and the number that a value shows.
-ghost use lib.IntN.{ℤ};
-ghost use mathlib.Core.Path.{_≡_};
-ghost use Rattle·arithmetic·specs.Meaning.{Meaning, two, inverse, Constants-show-themselves, Readings-show-themselves, Limits-to-the-nearest};
+ghost use Rattle.std.specs.Prelude.{◌≡◌, ℤ};
+ghost use Rattle.arithmetic.specs.Meaning.{Meaning, two, inverse, Constants-show-themselves, Readings-show-themselves, Limits-to-the-nearest};
 
 pub mod operators;
 pub mod plain;
@@ -10,47 +9,46 @@ mod tests;
 pub mod traced;
 pub mod tracing;
 
-use operators::Combining;
-use operators::Operator;
+use operators::{Combining, Operator};
 
 /// An arithmetic: its own type of value, and one fixed function for each thing that is done with values.
 pub trait Arithmetic {
     type Value: Copy;
 
     // the six functions, for this arithmetic
-    ghost meaning: { Self → Meaning Self·Value };
-
-    law constants: { (a : Self) → Constants-show-themselves (meaning a) };
-
-    law readings: { (a : Self) → Readings-show-themselves (meaning a) };
-
-    law limits: { (a : Self) → Limits-to-the-nearest (meaning a) };
+    ghost meaning: { Self → Meaning Self.Value };
 
     /// The value of a constant.
     fn constant(&self, number: i32) -> Self::Value
-        ensures { λ r. ⌜ r ≡ meaning (now (self .entry)) .constant number ⌝ };
+        ensures { result ≡ (meaning self.now).constant number };
 
     /// The value of a reading, for an input variable by its number.
     fn reading(&self, input: u8, number: i32) -> Self::Value
-        ensures { λ r. ⌜ r ≡ meaning (now (self .entry)) .reading input number ⌝ };
+        ensures { result ≡ (meaning self.now).reading input number };
 
     /// An operator on two values.
     fn binary(&self, operator: Operator, first: Self::Value, second: Self::Value) -> Self::Value
-        ensures { λ r. ⌜ r ≡ meaning (now (self .entry)) .operated (two operator first second) ⌝ };
+        ensures { result ≡ (meaning self.now).operated (two operator first second) };
 
     /// The operator `not` on one value.
     fn inverted(&self, value: Self::Value) -> Self::Value
-        ensures { λ r. ⌜ r ≡ meaning (now (self .entry)) .operated (inverse value) ⌝ };
+        ensures { result ≡ (meaning self.now).operated (inverse value) };
 
     /// The number that a value shows.
     fn shows(&self, value: Self::Value) -> i32
-        ensures { λ r. ⌜ r ≡ meaning (now (self .entry)) .shows value ⌝ };
+        ensures { result ≡ (meaning self.now).shows value };
 
     /// A value limited to the numbers from low to high.
     fn limited(&self, low: i32, high: i32, value: Self::Value) -> Self::Value
-        ensures { λ r. ⌜ r ≡ meaning (now (self .entry)) .limited low high value ⌝ };
+        ensures { result ≡ (meaning self.now).limited low high value };
 
     /// Two copies combined, the first arm's copy first.
     fn combined(&self, operator: Combining, first: Self::Value, second: Self::Value) -> Self::Value
-        ensures { λ r. ⌜ r ≡ meaning (now (self .entry)) .combined operator first second ⌝ };
+        ensures { result ≡ (meaning self.now).combined operator first second };
+
+    ghost constants: { (a : Self) → Constants-show-themselves (meaning a) };
+
+    ghost readings: { (a : Self) → Readings-show-themselves (meaning a) };
+
+    ghost limits: { (a : Self) → Limits-to-the-nearest (meaning a) };
 }

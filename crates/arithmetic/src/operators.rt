@@ -1,7 +1,6 @@
 //! The operators of expressions, those that combine two copies, and the numbers that programs give them.
-ghost use mathlib.Core.Path.{_≡_};
-ghost use Rattle·arithmetic·specs.Operators.{operator-byte, combining-number, No-operator, No-combining};
-ghost use Rattle·std.specs.Options.{Cases};
+ghost use Rattle.std.specs.Prelude.{◌≡◌, MatchOption};
+ghost use Rattle.arithmetic.specs.Operators.{operator-byte, combining-number, No-operator, No-combining};
 
 /// An operator of an expression that takes two values.
 #[derive(Clone, Copy)]
@@ -27,7 +26,7 @@ pub enum Combining {
 impl Operator {
     /// The operator of a command byte, if it has one.
     pub fn from_byte(byte: u8) -> Option<Operator>
-        ensures { λ r. ⌜ Cases r (No-operator byte) (λ o. operator-byte o ≡ byte) ⌝ }
+        ensures { MatchOption result (No-operator byte) (λ o. operator-byte o ≡ byte) }
     {
         match byte {
             0x42 => Some(Operator::Add),
@@ -43,7 +42,7 @@ impl Operator {
 
     /// The command byte of an operator.
     pub fn byte(self) -> u8
-        ensures { λ r. ⌜ r ≡ operator-byte self ⌝ }
+        ensures { result ≡ operator-byte self }
     {
         match self {
             Operator::Add => 0x42,
@@ -60,7 +59,7 @@ impl Operator {
 impl Combining {
     /// The operator that a declaration's number stands for, if there is one.
     pub fn from_number(number: u8) -> Option<Combining>
-        ensures { λ r. ⌜ Cases r (No-combining number) (λ o. combining-number o ≡ number) ⌝ }
+        ensures { MatchOption result (No-combining number) (λ o. combining-number o ≡ number) }
     {
         match number {
             0 => Some(Combining::Sum),
@@ -73,7 +72,7 @@ impl Combining {
 
     /// The number of the operator in a declaration.
     pub fn number(self) -> u8
-        ensures { λ r. ⌜ r ≡ combining-number self ⌝ }
+        ensures { result ≡ combining-number self }
     {
         match self {
             Combining::Sum => 0,

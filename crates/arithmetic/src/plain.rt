@@ -1,17 +1,25 @@
 //! The plain arithmetic: signed 32-bit numbers.
-ghost use Rattle·arithmetic·specs.Plain.{plain};
+ghost use Rattle.arithmetic.specs.Plain.{plain};
+ghost use Rattle.arithmetic.specs.Nearest.{clamped-nearest};
+ghost use Rattle.std.proofs.Common.{rules};
+
 use crate::Arithmetic;
-use crate::operators::Combining;
-use crate::operators::Operator;
+use crate::operators::{Combining, Operator};
 
 /// Values are numbers; what would leave the range stops at its end.
 #[derive(Clone, Copy)]
 pub struct Plain {}
 
-pub impl Arithmetic for Plain as PlainArithmetic {
+impl Arithmetic for Plain {
     type Value = i32;
 
     ghost meaning = { λ _. plain };
+
+    ghost constants = { Prim.search rules };
+
+    ghost readings = { Prim.search rules };
+
+    ghost limits = { λ a low high x h. clamped-nearest low high x h };
 
     fn constant(&self, number: i32) -> i32 {
         number

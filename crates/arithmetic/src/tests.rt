@@ -1,15 +1,9 @@
 //! The arithmetics at the ends of the range, from tables.
 use crate::Arithmetic;
-use crate::operators::Combining;
-use crate::operators::Operator;
+use crate::operators::{Combining, Operator};
 use crate::plain::Plain;
-use crate::plain::PlainArithmetic;
 use crate::traced::Traced;
-use crate::traced::TracedDebug;
-use crate::traced::TracedPartialEq;
 use crate::tracing::Tracing;
-use crate::tracing::TracingArithmetic;
-use std::test::*;
 
 const LOWEST: i32 = -2147483648;
 
@@ -65,9 +59,9 @@ const LIMITED: [(i32, i32, i32, i32); 6] = [
 ];
 
 #[test]
-fn operators_on_two_values() -> Result<(), Fail> {
+fn operators_on_two_values(rt: HostRuntime) {
     for (operator, first, second, gives) in BINARY {
-        check(Plain {}.binary(operator, first, second) == gives)?;
+        assert!(rt; Plain {}.binary(operator, first, second) == gives);
         let traced = Tracing {}.binary(
             operator,
             Traced {
@@ -79,32 +73,31 @@ fn operators_on_two_values() -> Result<(), Fail> {
                 mask: 4,
             },
         );
-        check_eq(
+        assert_eq!(rt;
             traced,
             Traced {
                 number: gives,
                 mask: 5,
-            },
-        )?;
+            }
+        );
     }
-    Ok(())
 }
 
 #[test]
-fn not_of_one_value() -> Result<(), Fail> {
-    check(Plain {}.inverted(0) == 1)?;
-    check(Plain {}.inverted(-1) == 0)?;
-    check(Plain {}.inverted(LOWEST) == 0)?;
-    check_eq(
+fn not_of_one_value(rt: HostRuntime) {
+    assert!(rt; Plain {}.inverted(0) == 1);
+    assert!(rt; Plain {}.inverted(-1) == 0);
+    assert!(rt; Plain {}.inverted(LOWEST) == 0);
+    assert_eq!(rt;
         Tracing {}.inverted(Traced { number: 0, mask: 6 }),
-        Traced { number: 1, mask: 6 },
-    )
+        Traced { number: 1, mask: 6 }
+    );
 }
 
 #[test]
-fn copies_combined() -> Result<(), Fail> {
+fn copies_combined(rt: HostRuntime) {
     for (operator, first, second, gives, mask) in COMBINED {
-        check(Plain {}.combined(operator, first, second) == gives)?;
+        assert!(rt; Plain {}.combined(operator, first, second) == gives);
         let traced = Tracing {}.combined(
             operator,
             Traced {
@@ -116,77 +109,74 @@ fn copies_combined() -> Result<(), Fail> {
                 mask: 2,
             },
         );
-        check_eq(
+        assert_eq!(rt;
             traced,
             Traced {
                 number: gives,
                 mask,
-            },
-        )?;
+            }
+        );
     }
-    Ok(())
 }
 
 #[test]
-fn values_limited() -> Result<(), Fail> {
+fn values_limited(rt: HostRuntime) {
     for (low, high, number, nearest) in LIMITED {
-        check(Plain {}.limited(low, high, number) == nearest)?;
+        assert!(rt; Plain {}.limited(low, high, number) == nearest);
         let traced = Tracing {}.limited(low, high, Traced { number, mask: 9 });
-        check_eq(
+        assert_eq!(rt;
             traced,
             Traced {
                 number: nearest,
                 mask: 9,
-            },
-        )?;
+            }
+        );
     }
-    Ok(())
 }
 
 #[test]
-fn readings_and_constants() -> Result<(), Fail> {
-    check(Plain {}.reading(7, LOWEST) == LOWEST)?;
-    check_eq(
+fn readings_and_constants(rt: HostRuntime) {
+    assert!(rt; Plain {}.reading(7, LOWEST) == LOWEST);
+    assert_eq!(rt;
         Tracing {}.reading(0, 12),
         Traced {
             number: 12,
             mask: 1,
-        },
-    )?;
-    check_eq(
+        }
+    );
+    assert_eq!(rt;
         Tracing {}.reading(31, -5),
         Traced {
             number: -5,
             mask: 2147483648,
-        },
-    )?;
-    check_eq(
+        }
+    );
+    assert_eq!(rt;
         Tracing {}.reading(32, -5),
         Traced {
             number: -5,
             mask: 0,
-        },
-    )?;
-    check_eq(
+        }
+    );
+    assert_eq!(rt;
         Tracing {}.constant(HIGHEST),
         Traced {
             number: HIGHEST,
             mask: 0,
-        },
-    )
+        }
+    );
 }
 
 #[test]
-fn numbers_of_operators() -> Result<(), Fail> {
+fn numbers_of_operators(rt: HostRuntime) {
     for byte in 0..=255u8 {
         match Operator::from_byte(byte) {
-            Some(operator) => check(operator.byte() == byte && byte >= 0x42 && byte <= 0x48)?,
-            None => check(byte < 0x42 || byte > 0x48)?,
+            Some(operator) => assert!(rt; operator.byte() == byte && byte >= 0x42 && byte <= 0x48),
+            None => assert!(rt; byte < 0x42 || byte > 0x48),
         }
         match Combining::from_number(byte) {
-            Some(operator) => check(operator.number() == byte && byte < 4)?,
-            None => check(byte >= 4)?,
+            Some(operator) => assert!(rt; operator.number() == byte && byte < 4),
+            None => assert!(rt; byte >= 4),
         }
     }
-    Ok(())
 }

@@ -1,11 +1,11 @@
 //! The tracing arithmetic: the plain number, and which probes it depends on.
-ghost use mathlib.Core.Path.{_≡_};
-ghost use Rattle·arithmetic·specs.Tracing.{tracing, traced, probe-bit};
+ghost use Rattle.std.specs.Prelude.{◌≡◌};
+ghost use Rattle.arithmetic.specs.Tracing.{tracing, traced, probe-bit};
+ghost use Rattle.std.proofs.Common.{rules};
+
 use crate::Arithmetic;
-use crate::operators::Combining;
-use crate::operators::Operator;
+use crate::operators::{Combining, Operator};
 use crate::plain::Plain;
-use crate::plain::PlainArithmetic;
 use crate::traced::Traced;
 
 /// Values are plain numbers, each with the mask of the probes that it depends on.
@@ -14,22 +14,28 @@ pub struct Tracing {}
 
 /// The mask of one input variable: its own bit, and none for a number over 31.
 pub fn probe_mask(input: u8) -> u32
-    ensures { λ r. ⌜ r ≡ probe-bit input ⌝ }
+    ensures { result ≡ probe-bit input }
 {
     if input < 32 { 1 << input } else { 0 }
 }
 
 // A number with its mask.
 fn with_mask(number: i32, mask: u32) -> Traced
-    ensures { λ r. ⌜ r ≡ traced number mask ⌝ }
+    ensures { result ≡ traced number mask }
 {
     Traced { number, mask }
 }
 
-pub impl Arithmetic for Tracing as TracingArithmetic {
+impl Arithmetic for Tracing {
     type Value = Traced;
 
     ghost meaning = { λ _. tracing };
+
+    ghost constants = { Prim.search rules };
+
+    ghost readings = { Prim.search rules };
+
+    ghost limits = { Prim.search rules };
 
     fn constant(&self, number: i32) -> Traced {
         with_mask(number, 0)

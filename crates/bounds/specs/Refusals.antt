@@ -1,7 +1,7 @@
 -- The outside numbers of the refusals of evaluating, and the places that they carry.
-use Prim.Native.Nat.{ℕ}
-use Rattle·bounds·specs.declared.refusal.Refusal.{Refusal}
-use Rattle·bounds·specs.declared.refusal.Refusal.the-variants.{BadExpression, WrongVariable, Memory, Readings}
+use Rattle.std.specs.Prelude.{ℕ}
+use Rattle.bounds.specs.declared.refusal.Refusal.{Refusal}
+use Rattle.bounds.specs.declared.refusal.Refusal.TheVariants.{BadExpression, WrongVariable, Memory, Readings}
 
 -- A bad expression is 6, a wrong variable 7, a value memory of other than 1,040 places 11, a wrong count of readings 15.
 abbrev pub refusal-number : Refusal → ℕ

@@ -1,10 +1,6 @@
 -- Which variables can be read, by the places of their values.
-use Prim.Native.Nat.{ℕ}
-use mathlib.Core.Bool.{cond}
-use lib.Dec.{ltb}
-use Rattle·std.specs.declared.option.Option.{Option}
-use Rattle·std.specs.declared.option.Option.the-variants.{Some, None}
+use Rattle.std.specs.Prelude.{ℕ, cond, Some, None, Option, nat_lt}
 
 -- A variable below the count can be read, in the place of its own number; no other can.
 abbrev pub first-places : ℕ → ℕ → Option ℕ
-first-places count v = cond (ltb v count) (Some v) None
+first-places count v = cond (nat_lt v count) (Some v) None

@@ -1,7 +1,5 @@
 //! The limits that a rate is held to.
-ghost use mathlib.Core.Path.{_≡_};
-ghost use lib.Signed.{_≤ℤ_, _<ℤ_};
-ghost use Rattle·std.specs.Options.{Cases};
+ghost use Rattle.std.specs.Prelude.{◌≡◌, ◌≤ℤ◌, ◌<ℤ◌, MatchOption};
 
 /// The lowest and the highest number that a rate may show. Limits with low over high do not exist.
 #[derive(Clone, Copy)]
@@ -14,7 +12,7 @@ pub struct Limits {
 impl Limits {
     /// Limits from low to high; none where low is over high.
     pub fn new(low: i32, high: i32) -> Option<Limits>
-        ensures { λ r. ⌜ Cases r (high <ℤ low) (λ l. (l .low ≡ low) × (l .high ≡ high)) ⌝ }
+        ensures { MatchOption result (high <ℤ low) (λ l. (l.low ≡ low) × (l.high ≡ high)) }
     {
         if low <= high {
             Some(Limits { low, high })
@@ -25,14 +23,14 @@ impl Limits {
 
     /// The lowest number.
     pub fn low(self) -> i32
-        ensures { λ r. ⌜ r ≡ self .low ⌝ }
+        ensures { result ≡ self.low }
     {
         self.low
     }
 
     /// The highest number.
     pub fn high(self) -> i32
-        ensures { λ r. ⌜ r ≡ self .high ⌝ }
+        ensures { result ≡ self.high }
     {
         self.high
     }

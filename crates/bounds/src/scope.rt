@@ -1,11 +1,6 @@
 //! Which variables an expression can read, and where their values lie.
-ghost use mathlib.Core.Bool.{cond};
-ghost use mathlib.Core.Path.{_≡_};
-ghost use Prim.Native.Nat.{ℕ};
-ghost use lib.Dec.{ltb};
-ghost use Rattle·std.specs.declared.option.Option.{Option};
-ghost use Rattle·std.specs.declared.option.Option.the-variants.{Some, None};
-ghost use Rattle·bounds·specs.Scopes.{first-places};
+ghost use Rattle.std.specs.Prelude.{◌≡◌, ℕ, cond, Some, None, Option};
+ghost use Rattle.bounds.specs.Scopes.{first-places};
 
 /// The place in the value memory of each variable that can be read.
 pub trait Scope {
@@ -13,7 +8,7 @@ pub trait Scope {
 
     /// The place of a variable, if it can be read.
     fn place(&self, variable: u8) -> Option<usize>
-        ensures { λ r. ⌜ r ≡ places (now (self .entry)) variable ⌝ };
+        ensures { result ≡ places self.now variable };
 }
 
 /// Variables 0, 1, .. below a count, each in the place of its own number.
@@ -22,8 +17,8 @@ pub struct FirstPlaces {
     pub count: usize,
 }
 
-pub impl Scope for FirstPlaces as FirstPlacesScope {
-    ghost places = { λ s. first-places (s .count) };
+impl Scope for FirstPlaces {
+    ghost places = { λ s. first-places s.count };
 
     fn place(&self, variable: u8) -> Option<usize> {
         let place = variable as usize;

@@ -1,7 +1,7 @@
 //! What the console answers to a line.
-ghost use Rattle·console·specs.Texts.{rate-text, answer-text};
+ghost use Rattle.console.specs.Texts.{rate-text, answer-text};
+
 use crate::tally::Tally;
-use crate::tally::TallyDisplay;
 use arithmetic::traced::Traced;
 use bounds::refusal::Refusal;
 use std::fmt;
@@ -22,8 +22,8 @@ pub enum Answer {
     Summary(Tally),
 }
 
-pub impl fmt::Display for Rate as RateDisplay {
-    ghost shown = { rate-text };
+impl fmt::Display for Rate {
+    ghost output = { rate-text };
 
     fn fmt<W: fmt::Write>(&self, f: &mut fmt::Formatter<W>) -> fmt::Result {
         match *self {
@@ -33,8 +33,8 @@ pub impl fmt::Display for Rate as RateDisplay {
     }
 }
 
-pub impl fmt::Display for Answer as AnswerDisplay {
-    ghost shown = { answer-text };
+impl fmt::Display for Answer {
+    ghost output = { answer-text };
 
     fn fmt<W: fmt::Write>(&self, f: &mut fmt::Formatter<W>) -> fmt::Result {
         match *self {

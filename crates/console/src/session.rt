@@ -1,17 +1,14 @@
 //! A job under way: the arithmetic that it has chosen, and what it has done.
-ghost use mathlib.Core.Path.{_≡_};
-ghost use Rattle·lines.specs.Lines.{said, evaluation-said};
-ghost use Rattle·console·specs.Sessions.{fresh, evaluated-by, rated, counted, performed, answered, Took};
-use crate::answer::Answer;
-use crate::answer::Rate;
+ghost use Rattle.std.specs.Prelude.{◌≡◌};
+ghost use Rattle.lines.specs.Lines.{said, evaluation-said};
+ghost use Rattle.console.specs.Sessions.{fresh, evaluated-by, rated, counted, performed, answered, Took};
+
+use crate::answer::{Answer, Rate};
 use crate::tally::Tally;
 use bounds::refusal::Refusal;
 use lines::choice::Choice;
-use lines::line::Evaluation;
-use lines::line::Line;
-use lines::line::parse;
-use rates::rate::plain_rate;
-use rates::rate::traced_rate;
+use lines::line::{Evaluation, Line, parse};
+use rates::rate::{plain_rate, traced_rate};
 use std::alloc::Global;
 use words::problem::Problem;
 
@@ -24,7 +21,7 @@ pub struct Session {
 
 // The rate of an evaluation in an arithmetic.
 fn rate_in(choice: Choice, evaluation: &Evaluation) -> Result<Rate, Refusal>
-    ensures { λ r. ⌜ r ≡ evaluated-by choice (evaluation-said (now (evaluation .entry))) ⌝ }
+    ensures { result ≡ evaluated-by choice (evaluation-said evaluation.now) }
 {
     let limits = evaluation.limits;
     let code = evaluation.code.as_slice();
@@ -38,7 +35,7 @@ fn rate_in(choice: Choice, evaluation: &Evaluation) -> Result<Rate, Refusal>
 impl Session {
     /// A job that has done nothing, in the plain arithmetic.
     pub fn new() -> Session
-        ensures { λ r. ⌜ r ≡ fresh ⌝ }
+        ensures { result ≡ fresh }
     {
         let tally = Tally {
             loads: 0,
@@ -56,9 +53,9 @@ impl Session {
 
     // Evaluates in the chosen arithmetic, and counts a refusal.
     fn evaluate(&mut self, evaluation: &Evaluation) -> Answer
-        ensures answer { λ r. ⌜ r ≡ rated (evaluated-by (now (self .entry) .choice) (evaluation-said (now (evaluation .entry)))) ⌝ }
-        ensures tally { λ _. ⌜ now (self .exit) .tally ≡ counted (evaluated-by (now (self .entry) .choice) (evaluation-said (now (evaluation .entry)))) (now (self .entry) .tally) ⌝ }
-        ensures choice { λ _. ⌜ now (self .exit) .choice ≡ now (self .entry) .choice ⌝ }
+        ensures answer { result ≡ rated (evaluated-by self.old.choice (evaluation-said evaluation.now)) }
+        ensures tally { self.new.tally ≡ counted (evaluated-by self.old.choice (evaluation-said evaluation.now)) self.old.tally }
+        ensures choice { self.new.choice ≡ self.old.choice }
     {
         match rate_in(self.choice, evaluation) {
             Ok(rate) => Answer::Evaluated(rate),
@@ -71,8 +68,8 @@ impl Session {
 
     /// Performs a line and answers it.
     pub fn perform(&mut self, line: &Line) -> Answer
-        ensures answer { λ r. ⌜ r ≡ answered (now (self .entry)) (said (now (line .entry))) ⌝ }
-        ensures state { λ _. ⌜ now (self .exit) ≡ performed (now (self .entry)) (said (now (line .entry))) ⌝ }
+        ensures answer { result ≡ answered self.old (said line.now) }
+        ensures state { self.new ≡ performed self.old (said line.now) }
     {
         match line {
             Line::Nothing => Answer::Nothing,
@@ -87,7 +84,7 @@ impl Session {
 
     /// Reads a line of text, performs it and answers it; a bad line changes nothing.
     pub fn take_line(&mut self, heap: Global, text: &str) -> Result<Answer, Problem>
-        ensures { λ r. ⌜ Took (now (self .entry)) (now (text .entry)) r (now (self .exit)) ⌝ }
+        ensures { Took self.old text.now result self.new }
     {
         let line = parse(heap, text)?;
         Ok(self.perform(&line))

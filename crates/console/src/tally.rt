@@ -1,6 +1,7 @@
 //! What a job has done so far.
-ghost use Rattle·std.specs.declared.option.Option.the-variants.{Some};
-ghost use Rattle·console·specs.Texts.{tally-text};
+ghost use Rattle.std.specs.Prelude.{Some};
+ghost use Rattle.console.specs.Texts.{tally-text};
+
 use std::fmt;
 
 /// How much a job has done, and the tick length of the program that is loaded, 0 with none.
@@ -14,8 +15,8 @@ pub struct Tally {
     pub tick_length: u64,
 }
 
-pub impl fmt::Display for Tally as TallyDisplay {
-    ghost shown = { λ t. Some (tally-text t) };
+impl fmt::Display for Tally {
+    ghost output = { λ t. Some (tally-text t) };
 
     fn fmt<W: fmt::Write>(&self, f: &mut fmt::Formatter<W>) -> fmt::Result {
         let Tally {

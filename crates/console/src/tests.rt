@@ -1,12 +1,9 @@
 //! What the console should do on examples.
-use crate::answer::AnswerDisplay;
 use crate::session::Session;
-use std::test::*;
-use words::problem::ProblemDebug;
-use words::problem::ProblemDisplay;
+use std::test::Fail;
 
 #[test]
-fn good_lines_are_answered(rt: LibcRuntime) -> Result<(), Fail> {
+fn good_lines_are_answered(rt: HostRuntime) -> Result<(), Fail> {
     let heap = rt.alloc();
     let mut session = Session::new();
     for (line, answer) in [
@@ -34,13 +31,13 @@ fn good_lines_are_answered(rt: LibcRuntime) -> Result<(), Fail> {
         ),
     ] {
         let answered = session.take_line(heap, line)?.to_string(heap)?;
-        check(answered.as_str() == answer).note(line)?;
+        assert!(rt; answered.as_str() == answer, "{}", line);
     }
     Ok(())
 }
 
 #[test]
-fn bad_lines_are_told(rt: LibcRuntime) -> Result<(), Fail> {
+fn bad_lines_are_told(rt: HostRuntime) -> Result<(), Fail> {
     let heap = rt.alloc();
     let mut session = Session::new();
     for (line, told) in [
@@ -79,7 +76,7 @@ fn bad_lines_are_told(rt: LibcRuntime) -> Result<(), Fail> {
     ] {
         match session.take_line(heap, line) {
             Ok(_) => return Err(Fail::new(line)),
-            Err(problem) => check(problem.to_string(heap)?.as_str() == told).note(line)?,
+            Err(problem) => assert!(rt; problem.to_string(heap)?.as_str() == told, "{}", line),
         }
     }
     Ok(())

@@ -1,34 +1,26 @@
 -- Declarations that are read one after another.
-use Prim.Native.Nat.{ℕ, zero, suc, _+_, _-_, _*_, _<_, _≤_}
-use mathlib.Core.Bool.{Bool, true, false}
-use mathlib.Core.List.{List, [], _∷_, _++_, append-assoc}
-use mathlib.Core.Path.{_≡_, refl, sym, ap, subst, _∙_}
-use native.Mathlib.Omega.{arith}
-use lib.Dec.{leb}
-use lib.ListN.{length, take, drop}
-use Rattle·std.specs.declared.result.Result.{Result}
-use Rattle·std.specs.declared.result.Result.the-variants.{Ok, Err}
-use Rattle·std.proofs.shelf.Lists.{length-drop, drop-drop}
-use Rattle·std.proofs.shelf.Tests.{leb-true, le-leb, lt-leb}
-use Rattle·rules.specs.Outcomes.{_>>=_, ensure}
-use Rattle·rules.specs.Reading.{read-declaration, read-declarations}
-use Rattle·rules.specs.Variables.{Variable}
-use Rattle·rules.specs.declared.faults.LoadFault.{LoadFault}
-use Rattle·rules.specs.declared.faults.LoadFault.the-variants.{CutDeclaration, BadDeclaration}
-use Rattle·rules.specs.declared.faults.ReadingFault.the-variants.{Cut}
-use Rattle·declarations·specs.Listing.{first-declaration, declarations-in}
+use Rattle.std.proofs.Common.{◌≡◌, ℕ, zero, suc, ◌+◌, ◌-◌, ◌*◌, ◌<◌, ◌≤◌, Bool, true, false, leb, List, [], ◌∷◌, ◌++◌, length, take, drop, Ok, Err, Result, sym, refl, ap, ◌∙◌, subst, append_assoc, arith}
+use Rattle.std.proofs.lemmas.List.{length-drop, drop-drop}
+use Rattle.std.proofs.lemmas.Bool.{leb-true, le-leb, lt-leb}
+use Rattle.rules.specs.Outcomes.{◌>>=◌, ensure}
+use Rattle.rules.specs.Reading.{read-declaration, read-declarations}
+use Rattle.rules.specs.Variables.{Variable}
+use Rattle.rules.specs.declared.faults.LoadFault.{LoadFault}
+use Rattle.rules.specs.declared.faults.LoadFault.TheVariants.{CutDeclaration, BadDeclaration}
+use Rattle.rules.specs.declared.faults.ReadingFault.TheVariants.{Cut}
+use Rattle.declarations.specs.Listing.{first-declaration, declarations-in}
 
 -- Declarations, and the bytes after them.
 abbrev pub Several : Type 0
 Several = List Variable × List ℕ
 
 -- One declaration more before others.
-abbrev pub with-first : Variable → Several → Result Several LoadFault
-with-first d q = Ok (d ∷ q .0, q .1)
+abbrev pub with_first : Variable → Several → Result Several LoadFault
+with_first d q = Ok (d ∷ q.0, q.1)
 
 -- Other declarations before those that are read.
 abbrev pub behind : List Variable → Result Several LoadFault → Result (List Variable) LoadFault
-behind ds (Ok q) = Ok (ds ++ q .0)
+behind ds (Ok q) = Ok (ds ++ q.0)
 behind ds (Err f) = Err f
 
 module _ {A B : Type 0} (f : LoadFault) (r : Result A LoadFault) (k : A → Result B LoadFault) where
@@ -39,19 +31,19 @@ module _ {A B : Type 0} (f : LoadFault) (r : Result A LoadFault) (k : A → Resu
 
 module _ (n e : ℕ) (bs : List ℕ) where
   -- The first declaration is read alone, and then the others.
-  first-alone : read-declarations (suc n) e bs ≡ (first-declaration e bs >>= λ d. read-declarations n e (drop 16 bs) >>= with-first d)
-  first-alone = test-first (CutDeclaration (Cut (e - length bs))) (read-declaration (BadDeclaration (e - length bs)) (take 16 bs)) (λ d. read-declarations n e (drop 16 bs) >>= with-first d) (leb 16 (length bs))
+  first_alone : read-declarations (suc n) e bs ≡ (first-declaration e bs >>= λ d. read-declarations n e (drop 16 bs) >>= with_first d)
+  first_alone = test-first (CutDeclaration (Cut (e - length bs))) (read-declaration (BadDeclaration (e - length bs)) (take 16 bs)) (λ d. read-declarations n e (drop 16 bs) >>= with_first d) (leb 16 (length bs))
 
 module _ (ds : List Variable) (d : Variable) where
   -- A declaration between those before and those after is the last of the former.
-  between : (r : Result Several LoadFault) → behind ds (r >>= with-first d) ≡ behind (ds ++ d ∷ []) r
-  between (Ok q) = ap Ok (sym (append-assoc ds (d ∷ []) (q .0)))
+  between : (r : Result Several LoadFault) → behind ds (r >>= with_first d) ≡ behind (ds ++ d ∷ []) r
+  between (Ok q) = ap Ok (sym (append_assoc ds (d ∷ []) q.0))
   between (Err f) = refl
 
 -- A test that holds before a result.
-held-test : {B : Type 0} (b : Bool) (f : LoadFault) (r : Result B LoadFault) (x : B) → (ensure b f >>= λ _. r) ≡ Ok x → b ≡ true
-held-test true f r x h = refl
-held-test false f r x h = let z : _≡_ {A = ℕ} 0 1 = cc in absurd (omega arith)
+held_test : {B : Type 0} (b : Bool) (f : LoadFault) (r : Result B LoadFault) (x : B) → (ensure b f >>= λ _. r) ≡ Ok x → b ≡ true
+held_test true f r x h = refl
+held_test false f r x h = let z : ◌≡◌ {A = ℕ} 0 1 = cc in absurd (omega arith)
 
 module _ (p : List ℕ) (i : ℕ) (h : i ≤ length p) where
   -- What is left of a program begins at the place that it was cut off at.
@@ -79,20 +71,20 @@ module _ (p : List ℕ) (ds : List Variable) (n i : ℕ) (a : Ahead p ds (suc n)
   -- The next declaration is read.
   one-read : (d : Variable) → Ok d ≡ first-declaration (length p) (drop i p) → Ahead p (ds ++ d ∷ []) n (i + 16)
   one-read d e =
-      let l = leb-true 16 (length (drop i p)) (held-test _ _ _ d (sym e)) in
+      let l = leb-true 16 (length (drop i p)) (held_test _ _ _ d (sym e)) in
       record {
-        within = omega (arith, length-drop i p, a .within);
+        within = omega (arith, length-drop i p, a.within);
         gives =
             ap (λ l. behind (ds ++ d ∷ []) (read-declarations n (length p) l)) (sym (drop-drop 16 i p))
             ∙ sym (between ds d (read-declarations n (length p) (drop 16 (drop i p))))
-            ∙ ap (λ r. behind ds (r >>= λ d. read-declarations n (length p) (drop 16 (drop i p)) >>= with-first d)) e
-            ∙ sym (ap (behind ds) (first-alone n (length p) (drop i p)))
-            ∙ a .gives;
+            ∙ ap (λ r. behind ds (r >>= λ d. read-declarations n (length p) (drop 16 (drop i p)) >>= with_first d)) e
+            ∙ sym (ap (behind ds) (first_alone n (length p) (drop i p)))
+            ∙ a.gives;
       }
 
   -- The next declaration is refused, and so are all.
   one-refused : (f : LoadFault) → Err f ≡ first-declaration (length p) (drop i p) → Err f ≡ declarations-in p
-  one-refused f e = ap (λ r. behind ds (r >>= λ d. read-declarations n (length p) (drop 16 (drop i p)) >>= with-first d)) e ∙ sym (ap (behind ds) (first-alone n (length p) (drop i p))) ∙ a .gives
+  one-refused f e = ap (λ r. behind ds (r >>= λ d. read-declarations n (length p) (drop 16 (drop i p)) >>= with_first d)) e ∙ sym (ap (behind ds) (first_alone n (length p) (drop i p))) ∙ a.gives
 
 module _ (p : List ℕ) (ds : List Variable) (count k : ℕ) (h : k < count) (a : Ahead p ds (count - k) (1 + 16 * k)) where
   -- Of the declarations that are left, one is the next.
@@ -111,32 +103,32 @@ module _ (p : List ℕ) (ds : List Variable) (count k : ℕ) (h : k < count) (a 
   turn-refused = one-refused p ds (count - (k + 1)) (1 + 16 * k) one-next
 
 -- A row that ends in a result has a result of its first part.
-row-first : {A B : Type 0} (r : Result A LoadFault) (k : A → Result B LoadFault) (y : B) → (r >>= k) ≡ Ok y → (a : A) × (k a ≡ Ok y) × (r ≡ Ok a)
-row-first (Ok a) k y h = (a, h, refl)
-row-first (Err f) k y h = let z : _≡_ {A = ℕ} 0 1 = cc in absurd (omega arith)
+row_first : {A B : Type 0} (r : Result A LoadFault) (k : A → Result B LoadFault) (y : B) → (r >>= k) ≡ Ok y → (a : A) × (k a ≡ Ok y) × (r ≡ Ok a)
+row_first (Ok a) k y h = (a, h, refl)
+row_first (Err f) k y h = let z : ◌≡◌ {A = ℕ} 0 1 = cc in absurd (omega arith)
 
 -- Equal results hold the same.
-same-several : (q r : Several) → _≡_ {A = Result Several LoadFault} (Ok q) (Ok r) → q ≡ r
+same-several : (q r : Several) → ◌≡◌ {A = Result Several LoadFault} (Ok q) (Ok r) → q ≡ r
 same-several q r h = cc
 
 -- Where n declarations are read, there are n of them, and what follows them are the bytes from 16 n on.
-pub declarations-counted : (n e : ℕ) (bs : List ℕ) (r : List Variable × List ℕ) → read-declarations n e bs ≡ Ok r → (length (r .0) ≡ n) × (r .1 ≡ drop (16 * n) bs)
+pub declarations-counted : (n e : ℕ) (bs : List ℕ) (r : List Variable × List ℕ) → read-declarations n e bs ≡ Ok r → (length r.0 ≡ n) × (r.1 ≡ drop (16 * n) bs)
 declarations-counted zero e bs r h =
     let k = same-several ([], bs) r h in
-    (sym (ap (λ (q : Several). length (q .0)) k), sym (ap (λ (q : Several). q .1) k))
+    (sym (ap (λ (q : Several). length q.0) k), sym (ap (λ (q : Several). q.1) k))
 declarations-counted (suc n) e bs r h =
-    let z = row-first (first-declaration e bs) _ r (sym (first-alone n e bs) ∙ h) in
-    let y = row-first (read-declarations n e (drop 16 bs)) (with-first (z .0)) r (z .1) in
-    let k = same-several _ r (y .1) in
-    let t = declarations-counted n e (drop 16 bs) (y .0) (y .2) in
+    let z = row_first (first-declaration e bs) _ r (sym (first_alone n e bs) ∙ h) in
+    let y = row_first (read-declarations n e (drop 16 bs)) (with_first z.0) r z.1 in
+    let k = same-several _ r y.1 in
+    let t = declarations-counted n e (drop 16 bs) y.0 y.2 in
     let m : 16 + 16 * n ≡ 16 * suc n = omega arith in
-    (sym (ap (λ (q : Several). length (q .0)) k) ∙ ap suc (t .0), sym (ap (λ (q : Several). q .1) k) ∙ t .1 ∙ drop-drop (16 * n) 16 bs ∙ ap (λ i. drop i bs) m)
+    (sym (ap (λ (q : Several). length q.0) k) ∙ ap suc t.0, sym (ap (λ (q : Several). q.1) k) ∙ t.1 ∙ drop-drop (16 * n) 16 bs ∙ ap (λ i. drop i bs) m)
 
 -- Where n declarations are read, they are within the bytes.
 pub declarations-within : (n e : ℕ) (bs : List ℕ) (r : List Variable × List ℕ) → read-declarations n e bs ≡ Ok r → 16 * n ≤ length bs
 declarations-within zero e bs r h = omega arith
 declarations-within (suc n) e bs r h =
-    let z = row-first (first-declaration e bs) _ r (sym (first-alone n e bs) ∙ h) in
-    let y = row-first (read-declarations n e (drop 16 bs)) (with-first (z .0)) r (z .1) in
-    let l = leb-true 16 (length bs) (held-test _ _ _ (z .0) (z .2)) in
-    omega (arith, declarations-within n e (drop 16 bs) (y .0) (y .2), length-drop 16 bs)
+    let z = row_first (first-declaration e bs) _ r (sym (first_alone n e bs) ∙ h) in
+    let y = row_first (read-declarations n e (drop 16 bs)) (with_first z.0) r z.1 in
+    let l = leb-true 16 (length bs) (held_test _ _ _ z.0 z.2) in
+    omega (arith, declarations-within n e (drop 16 bs) y.0 y.2, length-drop 16 bs)

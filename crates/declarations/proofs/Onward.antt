@@ -1,41 +1,33 @@
 -- What the declarations of a program say of loading it.
-use Prim.Native.Nat.{ℕ, suc, _+_, _*_, _≤_}
-use mathlib.Core.Bool.{Bool, true, false, _&&_}
-use mathlib.Core.List.{List, [], _∷_}
-use mathlib.Core.Path.{_≡_, refl, sym, ap, _∙_}
-use native.Mathlib.Omega.{arith}
-use lib.Dec.{leb}
-use lib.ListN.{length, drop}
-use Rattle·std.specs.declared.result.Result.{Result}
-use Rattle·std.specs.declared.result.Result.the-variants.{Ok, Err}
-use Rattle·std.proofs.shelf.Tests.{leb-true, and-parts}
-use Rattle·evaluator.specs.Evaluating.{most-variables}
-use Rattle·rules.specs.Outcomes.{_>>=_, ensure}
-use Rattle·rules.specs.Lengths.{block-length, longest-tick}
-use Rattle·rules.specs.Reading.{most-bytes, most-nested, read-declarations, read-block, start, owners-live, loops-pause, read-all, read}
-use Rattle·rules.specs.Text.{Program, arms}
-use Rattle·rules.specs.Variables.{Variable}
-use Rattle·rules.specs.declared.faults.LoadFault.{LoadFault}
-use Rattle·rules.specs.declared.faults.LoadFault.the-variants.{BadLength, TooManyVariables, TickTooLong}
-use Rattle·declarations·specs.Listing.{declarations-first, declarations-in, read-main}
-use Rattle·declarations·proofs.InOrder.{Several, declarations-counted, declarations-within}
+use Rattle.std.proofs.Common.{◌≡◌, ℕ, suc, ◌+◌, ◌*◌, ◌≤◌, Bool, true, false, ◌&&◌, leb, List, [], ◌∷◌, length, drop, Ok, Err, Result, sym, refl, ap, ◌∙◌, arith}
+use Rattle.std.proofs.lemmas.Bool.{leb-true, and_parts}
+use Rattle.evaluator.specs.Evaluating.{most-variables}
+use Rattle.rules.specs.Outcomes.{◌>>=◌, ensure}
+use Rattle.rules.specs.Lengths.{block-length, longest-tick}
+use Rattle.rules.specs.Reading.{most_bytes, most-nested, read-declarations, read-block, start, owners-live, loops-pause, read_all, read}
+use Rattle.rules.specs.Text.{Program, arms}
+use Rattle.rules.specs.Variables.{Variable}
+use Rattle.rules.specs.declared.faults.LoadFault.{LoadFault}
+use Rattle.rules.specs.declared.faults.LoadFault.TheVariants.{BadLength, TooManyVariables, TickTooLong}
+use Rattle.declarations.specs.Listing.{declarations-first, declarations-in, read-main}
+use Rattle.declarations.proofs.InOrder.{Several, declarations-counted, declarations-within}
 
 -- A refusal is no result.
-no-result : {A : Type 0} {P : Type 0} {f : LoadFault} {a : A} → _≡_ {A = Result A LoadFault} (Err f) (Ok a) → P
-no-result {f = f} {a = a} h = let z : _≡_ {A = ℕ} 0 1 = cc in absurd (omega arith)
+no_result : {A : Type 0} {P : Type 0} {f : LoadFault} {a : A} → ◌≡◌ {A = Result A LoadFault} (Err f) (Ok a) → P
+no_result {f = f} {a = a} h = let z : ◌≡◌ {A = ℕ} 0 1 = cc in absurd (omega arith)
 
 -- Equal results hold the same list.
-same-list : (ds es : List Variable) → _≡_ {A = Result (List Variable) LoadFault} (Ok ds) (Ok es) → ds ≡ es
+same-list : (ds es : List Variable) → ◌≡◌ {A = Result (List Variable) LoadFault} (Ok ds) (Ok es) → ds ≡ es
 same-list ds es h = cc
 
 -- The declarations alone, of what is read.
 abbrev alone : Several → Result (List Variable) LoadFault
-alone q = Ok (q .0)
+alone q = Ok q.0
 
 module _ {B : Type 0} (go : Several → Result B LoadFault) (f : LoadFault) where
   -- Where declarations are refused, what follows them is too.
   refused-row : (r : Result Several LoadFault) → (r >>= alone) ≡ Err f → (r >>= go) ≡ Err f
-  refused-row (Ok q) h = no-result (sym h)
+  refused-row (Ok q) h = no_result (sym h)
   refused-row (Err g) h = cc
 
 -- The same behind a test.
@@ -44,23 +36,23 @@ refused-test true g f r s k h = k h
 refused-test false g f r s k h = cc
 
 -- A refusal behind the test of the length is the refusal of loading.
-all-refused : (e : ℕ) (p : List ℕ) (f : LoadFault) → declarations-first e p ≡ Err f → read-all e p ≡ Err f
+all-refused : (e : ℕ) (p : List ℕ) (f : LoadFault) → declarations-first e p ≡ Err f → read_all e p ≡ Err f
 all-refused e [] f h = cc
 all-refused e (n ∷ bs) f h = refused-test (leb n most-variables) TooManyVariables f (read-declarations n e bs >>= alone) _ (refused-row _ f (read-declarations n e bs)) h
 
 -- Where the declarations of a program are refused, loading refuses it with the same fault.
 pub read-refused : (p : List ℕ) (f : LoadFault) → declarations-in p ≡ Err f → read p ≡ Err f
-read-refused p f h = refused-test (leb 1 (length p) && leb (length p) most-bytes) BadLength f (declarations-first (length p) p) (read-all (length p) p) (all-refused (length p) p f) h
+read-refused p f h = refused-test (leb 1 (length p) && leb (length p) most_bytes) BadLength f (declarations-first (length p) p) (read_all (length p) p) (all-refused (length p) p f) h
 
 -- A test that holds before a result, and the result behind it.
 tested : {A : Type 0} (b : Bool) (g : LoadFault) (r : Result A LoadFault) (a : A) → (ensure b g >>= λ _. r) ≡ Ok a → (b ≡ true) × (r ≡ Ok a)
 tested true g r a h = (refl, h)
-tested false g r a h = no-result h
+tested false g r a h = no_result h
 
 -- Where the declarations alone are a result, they were read.
-alone-read : (r : Result Several LoadFault) (ds : List Variable) → (r >>= alone) ≡ Ok ds → (q : Several) × (r ≡ Ok q) × (q .0 ≡ ds)
-alone-read (Ok q) ds h = (q, refl, same-list (q .0) ds h)
-alone-read (Err g) ds h = no-result h
+alone-read : (r : Result Several LoadFault) (ds : List Variable) → (r >>= alone) ≡ Ok ds → (q : Several) × (r ≡ Ok q) × (q.0 ≡ ds)
+alone-read (Ok q) ds h = (q, refl, same-list q.0 ds h)
+alone-read (Err g) ds h = no_result h
 
 -- A program whose declarations are read: its length, how many it declares, and what loading it goes on with.
 pub record Declares (p : List ℕ) (ds : List Variable) : Type 0 where
@@ -70,46 +62,46 @@ pub record Declares (p : List ℕ) (ds : List Variable) : Type 0 where
   pub onward : read p ≡ read-main (length p) ds (drop (1 + 16 * length ds) p)
 
 -- What loading goes on with, by the count of declarations and what is read of them.
-abbrev going-on : (e n : ℕ) → Several → Result Program LoadFault
-going-on e n q = do
-  B ← read-block (q .0) most-nested 0 start e (q .1)
-  _ ← owners-live (1 + arms B) 1 (q .0)
+abbrev going_on : (e n : ℕ) → Several → Result Program LoadFault
+going_on e n q = do
+  B ← read-block q.0 most-nested 0 start e q.1
+  _ ← owners-live (1 + arms B) 1 q.0
   _ ← loops-pause (1 + 16 * n) 0 0 1 B
   _ ← ensure (leb (block-length B + 1) longest-tick) TickTooLong
-  Ok (record { variables = q .0; main = B })
+  Ok (record { variables = q.0; main = B })
 
 module _ (e n : ℕ) (bs : List ℕ) (ds : List Variable) where
   -- The bytes behind the count, where the declarations in them are read.
-  behind-count : (q : Several) → leb n most-variables ≡ true → read-declarations n e bs ≡ Ok q → q .0 ≡ ds → q .1 ≡ drop (16 * n) bs → n ≡ length ds → read-all e (n ∷ bs) ≡ read-main e ds (drop (16 * n) bs)
+  behind-count : (q : Several) → leb n most-variables ≡ true → read-declarations n e bs ≡ Ok q → q.0 ≡ ds → q.1 ≡ drop (16 * n) bs → n ≡ length ds → read_all e (n ∷ bs) ≡ read-main e ds (drop (16 * n) bs)
   behind-count q b r d z c =
-      ap (λ x. ensure x TooManyVariables >>= λ _. read-declarations n e bs >>= going-on e n) b
-      ∙ ap (λ x. x >>= going-on e n) r
-      ∙ (λ i. going-on e (c i) (d i, z i))
+      ap (λ x. ensure x TooManyVariables >>= λ _. read-declarations n e bs >>= going_on e n) b
+      ∙ ap (λ x. x >>= going_on e n) r
+      ∙ (λ i. going_on e (c i) (d i, z i))
 
   -- The same from the declarations.
-  count-first : declarations-first e (n ∷ bs) ≡ Ok ds → (length ds ≡ n) × (n ≤ 32) × (16 * n ≤ length bs) × (read-all e (n ∷ bs) ≡ read-main e ds (drop (16 * n) bs))
+  count-first : declarations-first e (n ∷ bs) ≡ Ok ds → (length ds ≡ n) × (n ≤ 32) × (16 * n ≤ length bs) × (read_all e (n ∷ bs) ≡ read-main e ds (drop (16 * n) bs))
   count-first h =
       let t = tested (leb n most-variables) TooManyVariables (read-declarations n e bs >>= alone) ds h in
-      let y = alone-read (read-declarations n e bs) ds (t .1) in
-      let k = declarations-counted n e bs (y .0) (y .1) in
-      let c : length ds ≡ n = ap length (sym (y .2)) ∙ k .0 in
-      (c, leb-true n 32 (t .0), declarations-within n e bs (y .0) (y .1), behind-count (y .0) (t .0) (y .1) (y .2) (k .1) (sym c))
+      let y = alone-read (read-declarations n e bs) ds t.1 in
+      let k = declarations-counted n e bs y.0 y.1 in
+      let c : length ds ≡ n = ap length (sym y.2) ∙ k.0 in
+      (c, leb-true n 32 t.0, declarations-within n e bs y.0 y.1, behind-count y.0 t.0 y.1 y.2 k.1 (sym c))
 
 -- Where the declarations of a program are read, loading goes on behind them.
 pub read-onward : (p : List ℕ) (ds : List Variable) → declarations-in p ≡ Ok ds → Declares p ds
-read-onward [] ds h = no-result h
+read-onward [] ds h = no_result h
 read-onward (n ∷ bs) ds h =
     let e = suc (length bs) in
-    let t = tested (leb 1 e && leb e most-bytes) BadLength (declarations-first e (n ∷ bs)) ds h in
-    let m = leb-true e 4096 (and-parts (leb 1 e) (leb e most-bytes) (t .0) .1) in
-    let k = count-first e n bs ds (t .1) in
-    let o : 1 + 16 * length ds ≡ suc (16 * n) = omega (arith, k .0) in
+    let t = tested (leb 1 e && leb e most_bytes) BadLength (declarations-first e (n ∷ bs)) ds h in
+    let m = leb-true e 4096 (and_parts (leb 1 e) (leb e most_bytes) t.0).1 in
+    let k = count-first e n bs ds t.1 in
+    let o : 1 + 16 * length ds ≡ suc (16 * n) = omega (arith, k.0) in
     record {
       short = m;
-      few = omega (arith, k .0, k .1);
-      within = omega (arith, k .0, k .2);
+      few = omega (arith, k.0, k.1);
+      within = omega (arith, k.0, k.2);
       onward =
-          ap (λ x. ensure x BadLength >>= λ _. read-all e (n ∷ bs)) (t .0)
-          ∙ k .3
+          ap (λ x. ensure x BadLength >>= λ _. read_all e (n ∷ bs)) t.0
+          ∙ k.3
           ∙ ap (λ i. read-main e ds (drop i (n ∷ bs))) (sym o);
     }

@@ -1,21 +1,18 @@
 -- What declarations declare.
-use mathlib.Core.Bool.{Bool, _&&_}
-use mathlib.Core.List.{List, map}
-use lib.IntN.{ℤ, pos}
-use lib.Signed.{leZ}
-use Rattle·arithmetic.specs.declared.operators.Combining.the-variants.{Sum}
-use Rattle·rules.specs.Variables.{Variable}
-use Rattle·rules.specs.declared.program.Kind.the-variants.{Input}
-use Rattle·rules.specs.declared.program.Policy.the-variants.{All}
-use Rattle·declarations·specs.declared.declaration.Declaration.{Declaration}
+use Rattle.std.specs.Prelude.{Bool, ◌&&◌, List, map, ℤ, pos, int_le}
+use Rattle.arithmetic.specs.declared.operators.Combining.TheVariants.{Sum}
+use Rattle.rules.specs.Variables.{Variable}
+use Rattle.rules.specs.declared.program.Kind.TheVariants.{Input}
+use Rattle.rules.specs.declared.program.Policy.TheVariants.{All}
+use Rattle.declarations.specs.declared.declaration.Declaration.{Declaration}
 
 -- The initial value is within the limits.
 abbrev pub ordered : (low initial high : ℤ) → Bool
-ordered l i h = leZ l i && leZ i h
+ordered l i h = int_le l i && int_le i h
 
 -- The variable that a declaration declares.
 abbrev pub variable-of : Declaration → Variable
-variable-of d = record { kind = d .kind; policy = d .policy; operator = d .operator; owner = d .owner; initial = d .initial; low = d .low; high = d .high }
+variable-of d = record { kind = d.kind; policy = d.policy; operator = d.operator; owner = d.owner; initial = d.initial; low = d.low; high = d.high }
 
 -- The variables that declarations declare, in order.
 abbrev pub variables-of : List Declaration → List Variable

@@ -1,8 +1,8 @@
 //! What is declared of a variable.
-ghost use lib.Signed.{_≤ℤ_};
+ghost use Rattle.std.specs.Prelude.{◌≤ℤ◌};
+
 use arithmetic::operators::Combining;
-use rules::program::Kind;
-use rules::program::Policy;
+use rules::program::{Kind, Policy};
 
 pub mod making;
 

@@ -1,17 +1,14 @@
 //! Reads all declarations of a program, and tests the owners that they name.
-ghost use mathlib.Core.Path.{_≡_};
-ghost use Prim.Native.Nat.{_≤_};
-ghost use lib.ListN.{length, drop};
-ghost use Rattle·evaluator.specs.Outcomes.{mapped};
-ghost use Rattle·rules.specs.Reading.{owners-live};
-ghost use Rattle·declarations·specs.Declaring.{variable-of};
-ghost use Rattle·declarations·specs.Listing.{listed, first-declaration, declarations-in};
+ghost use Rattle.std.specs.Prelude.{◌≡◌, ◌≤◌, length, drop};
+ghost use Rattle.evaluator.specs.Outcomes.{mapped};
+ghost use Rattle.rules.specs.Reading.{owners-live};
+ghost use Rattle.declarations.specs.Declaring.{variable-of};
+ghost use Rattle.declarations.specs.Listing.{listed, first-declaration, declarations-in};
+
 use crate::declaration::Declaration;
 use crate::list::Declarations;
-use crate::reading::DECLARATION_BYTES;
-use crate::reading::declaration_in;
-use rules::faults::LoadFault;
-use rules::faults::ReadingFault;
+use crate::reading::{DECLARATION_BYTES, declaration_in};
+use rules::faults::{LoadFault, ReadingFault};
 
 /// The most bytes that a program has.
 pub const MOST_BYTES: usize = 4096;
@@ -21,8 +18,8 @@ pub const MOST_VARIABLES: u8 = 32;
 
 // The declaration at a place of the program.
 fn declaration_at(program: &[u8], place: usize) -> Result<Declaration, LoadFault>
-    requires { ⌜ place ≤ length (now program) ⌝ }
-    ensures { λ r. ⌜ mapped variable-of r ≡ first-declaration (length (now (program .entry))) (drop place (now (program .entry))) ⌝ }
+    requires { place ≤ length program.now }
+    ensures { mapped variable-of result ≡ first-declaration (length program.now) (drop place program.now) }
 {
     if program.len() - place < DECLARATION_BYTES {
         return Err(LoadFault::CutDeclaration(ReadingFault::Cut(place)));
@@ -32,7 +29,7 @@ fn declaration_at(program: &[u8], place: usize) -> Result<Declaration, LoadFault
 
 /// The declarations of a program, or why its length, their count or one of them is refused.
 pub fn read_declarations(program: &[u8]) -> Result<Declarations, LoadFault>
-    ensures { λ r. ⌜ mapped listed r ≡ declarations-in (now (program .entry)) ⌝ }
+    ensures { mapped listed result ≡ declarations-in program.now }
 {
     if program.len() < 1 || program.len() > MOST_BYTES {
         return Err(LoadFault::BadLength);
@@ -51,7 +48,7 @@ pub fn read_declarations(program: &[u8]) -> Result<Declarations, LoadFault>
 
 /// The first declaration whose owner is none of the threads is bad.
 pub fn owners_live(declarations: &Declarations, threads: usize) -> Result<(), LoadFault>
-    ensures { λ r. ⌜ r ≡ owners-live threads 1 (listed (now (declarations .entry))) ⌝ }
+    ensures { result ≡ owners-live threads 1 (listed declarations.now) }
 {
     let list = declarations.as_slice();
     for i in 0..list.len() {

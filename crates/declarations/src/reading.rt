@@ -1,26 +1,24 @@
 //! Reads declarations from the bytes of a program.
-ghost use mathlib.Core.Path.{_≡_};
-ghost use Prim.Native.Nat.{_≤_};
-ghost use lib.ListN.{length, getD};
-ghost use Rattle·arithmetic.specs.Operators.{combining-number};
-ghost use Rattle·evaluator.specs.Outcomes.{mapped};
-ghost use Rattle·rules.specs.Encoding.{kind-number, policy-number};
-ghost use Rattle·rules.specs.Outcomes.{numbered};
-ghost use Rattle·rules.specs.Reading.{kinds, policies, combinings, zeros-right, number-at, read-declaration};
-ghost use Rattle·rules.specs.declared.faults.LoadFault.the-variants.{BadDeclaration};
-ghost use Rattle·declarations·specs.Declaring.{variable-of};
+ghost use Rattle.std.specs.Prelude.{◌≡◌, ◌≤◌, length};
+ghost use Rattle.arithmetic.specs.Operators.{combining-number};
+ghost use Rattle.evaluator.specs.Outcomes.{mapped};
+ghost use Rattle.rules.specs.Encoding.{kind-number, policy-number};
+ghost use Rattle.rules.specs.Outcomes.{numbered};
+ghost use Rattle.rules.specs.Reading.{kinds, policies, combinings, zeros-right, number_at, read-declaration};
+ghost use Rattle.rules.specs.declared.faults.LoadFault.TheVariants.{BadDeclaration};
+ghost use Rattle.declarations.specs.Declaring.{variable-of};
+
 use crate::declaration::Declaration;
 use arithmetic::operators::Combining;
 use rules::faults::LoadFault;
-use rules::program::Kind;
-use rules::program::Policy;
+use rules::program::{Kind, Policy};
 
 /// How many bytes a declaration has.
 pub const DECLARATION_BYTES: usize = 16;
 
 /// The kind of variable that a number stands for.
 pub fn kind_of(number: u8) -> Option<Kind>
-    ensures { λ r. ⌜ r ≡ numbered kind-number kinds number ⌝ }
+    ensures { result ≡ numbered kind-number kinds number }
 {
     match number {
         0 => Some(Kind::Input),
@@ -33,7 +31,7 @@ pub fn kind_of(number: u8) -> Option<Kind>
 
 /// The policy that a number stands for.
 pub fn policy_of(number: u8) -> Option<Policy>
-    ensures { λ r. ⌜ r ≡ numbered policy-number policies number ⌝ }
+    ensures { result ≡ numbered policy-number policies number }
 {
     match number {
         0 => Some(Policy::All),
@@ -45,7 +43,7 @@ pub fn policy_of(number: u8) -> Option<Policy>
 
 /// The operator of joins that a number stands for.
 pub fn combining_of(number: u8) -> Option<Combining>
-    ensures { λ r. ⌜ r ≡ numbered combining-number combinings number ⌝ }
+    ensures { result ≡ numbered combining-number combinings number }
 {
     match number {
         0 => Some(Combining::Sum),
@@ -58,7 +56,7 @@ pub fn combining_of(number: u8) -> Option<Combining>
 
 /// Whether policy, operator and owner are 0 where the kind has none.
 pub fn zeros_right(kind: Kind, policy: u8, operator: u8, owner: u8) -> bool
-    ensures { λ r. ⌜ r ≡ zeros-right kind policy operator owner ⌝ }
+    ensures { result ≡ zeros-right kind policy operator owner }
 {
     match kind {
         Kind::Input => policy == 0 && operator == 0 && owner == 0,
@@ -69,16 +67,16 @@ pub fn zeros_right(kind: Kind, policy: u8, operator: u8, owner: u8) -> bool
 
 // The signed number in four bytes, from the place i of a declaration on.
 fn number_at(bytes: &[u8], i: usize) -> i32
-    requires { ⌜ length (now bytes) ≡ 16 ⌝ ∗ ⌜ i ≤ 12 ⌝ }
-    ensures { λ r. ⌜ r ≡ number-at i (now (bytes .entry)) ⌝ }
+    requires { (length bytes.now ≡ 16) × (i ≤ 12) }
+    ensures { result ≡ number_at i bytes.now }
 {
     i32::from_le_bytes([bytes[i], bytes[i + 1], bytes[i + 2], bytes[i + 3]])
 }
 
 /// The declaration in 16 bytes at a place of the program.
 pub(crate) fn declaration_in(bytes: &[u8], place: usize) -> Result<Declaration, LoadFault>
-    requires { ⌜ length (now bytes) ≡ 16 ⌝ }
-    ensures { λ r. ⌜ mapped variable-of r ≡ read-declaration (BadDeclaration place) (now (bytes .entry)) ⌝ }
+    requires { length bytes.now ≡ 16 }
+    ensures { mapped variable-of result ≡ read-declaration (BadDeclaration place) bytes.now }
 {
     let bad = LoadFault::BadDeclaration(place);
     let Some(kind) = kind_of(bytes[0]) else {

@@ -1,20 +1,11 @@
 //! Declarations good and bad, from tables.
 use crate::list::Declarations;
-use crate::program::owners_live;
-use crate::program::read_declarations;
-use crate::scopes::may_read;
-use crate::scopes::may_set;
-use rules::faults::LoadFault;
-use rules::faults::LoadFaultDebug;
-use rules::faults::LoadFaultPartialEq;
-use rules::faults::ReadingFault;
-use rules::program::Kind;
-use rules::program::KindDebug;
-use rules::program::KindPartialEq;
-use rules::program::Policy;
-use rules::program::PolicyDebug;
-use rules::program::PolicyPartialEq;
-use std::test::*;
+use crate::program::{owners_live, read_declarations};
+use crate::scopes::{may_read, may_set};
+use rules::faults::{LoadFault, ReadingFault};
+use rules::program::{Kind, Policy};
+use std::process::Abort;
+use std::test::Fail;
 
 // a program of one declaration, whether it is accepted
 const SINGLE: [(&[u8], bool); 20] = [
@@ -125,106 +116,118 @@ const SCOPES: [(u8, usize, bool, bool); 8] = [
 ];
 
 #[test]
-fn single_declarations() -> Result<(), Fail> {
+fn single_declarations(rt: HostRuntime) {
     for (program, accepted) in SINGLE {
         match read_declarations(program) {
             Ok(declarations) => {
-                check(accepted)?;
-                check(declarations.as_slice().len() == 1)?;
+                assert!(rt; accepted);
+                assert!(rt; declarations.as_slice().len() == 1);
             }
             Err(fault) => {
-                check(!accepted)?;
-                check_eq(fault, LoadFault::BadDeclaration(1))?;
+                assert!(rt; !accepted);
+                assert_eq!(rt; fault, LoadFault::BadDeclaration(1));
             }
         }
     }
-    Ok(())
 }
 
 #[test]
-fn fields_of_declarations() -> Result<(), Fail> {
+fn fields_of_declarations(rt: HostRuntime) -> Result<(), Fail> {
     let declarations = read_declarations(THREE)?;
     let list = declarations.as_slice();
-    check(list.len() == 3)?;
+    assert!(rt; list.len() == 3);
     let private = list[1];
-    check_eq(private.kind(), Kind::Private)?;
-    check(private.owner() == 1)?;
-    check(private.initial() == 5)?;
-    check(private.low() == 0)?;
-    check(private.high() == 100)?;
+    assert_eq!(rt; private.kind(), Kind::Private);
+    assert!(rt; private.owner() == 1);
+    assert!(rt; private.initial() == 5);
+    assert!(rt; private.low() == 0);
+    assert!(rt; private.high() == 100);
     let output = list[2];
-    check_eq(output.kind(), Kind::Output)?;
-    check_eq(output.policy(), Policy::Mod)?;
-    check(output.operator().number() == 3)?;
-    check(list[0].low() == -10)
+    assert_eq!(rt; output.kind(), Kind::Output);
+    assert_eq!(rt; output.policy(), Policy::Mod);
+    assert!(rt; output.operator().number() == 3);
+    assert!(rt; list[0].low() == -10);
+    Ok(())
 }
 
-fn refused(program: &[u8], fault: LoadFault) -> Result<(), Fail> {
+fn refused(rt: &impl Abort, program: &[u8], fault: LoadFault) -> Result<(), Fail> {
     match read_declarations(program) {
         Ok(_) => Err(Fail::new("accepted")),
-        Err(met) => check_eq(met, fault),
+        Err(met) => {
+            assert_eq!(rt; met, fault);
+            Ok(())
+        },
     }
 }
 
 #[test]
-fn lengths_and_counts() -> Result<(), Fail> {
+fn lengths_and_counts(rt: HostRuntime) -> Result<(), Fail> {
     let mut long = [0u8; 4097];
-    refused(&[], LoadFault::BadLength)?;
-    refused(&long, LoadFault::BadLength)?;
-    check(read_declarations(&long[..4096])?.as_slice().len() == 0)?;
+    refused(&rt, &[], LoadFault::BadLength)?;
+    refused(&rt, &long, LoadFault::BadLength)?;
+    assert!(rt; read_declarations(&long[..4096])?.as_slice().len() == 0);
     long[0] = 32;
-    check(read_declarations(&long[..4096])?.as_slice().len() == 32)?;
-    check(read_declarations(&long[..513])?.as_slice().len() == 32)?;
+    assert!(rt; read_declarations(&long[..4096])?.as_slice().len() == 32);
+    assert!(rt; read_declarations(&long[..513])?.as_slice().len() == 32);
     refused(
+        &rt,
         &long[..512],
         LoadFault::CutDeclaration(ReadingFault::Cut(497)),
     )?;
     long[0] = 33;
-    refused(&long[..4096], LoadFault::TooManyVariables)?;
-    refused(&long, LoadFault::BadLength)
+    refused(&rt, &long[..4096], LoadFault::TooManyVariables)?;
+    refused(&rt, &long, LoadFault::BadLength)
 }
 
 #[test]
-fn places_of_faults() -> Result<(), Fail> {
-    check(read_declarations(THREE)?.as_slice().len() == 3)?;
-    refused(&THREE[..1], LoadFault::CutDeclaration(ReadingFault::Cut(1)))?;
+fn places_of_faults(rt: HostRuntime) -> Result<(), Fail> {
+    assert!(rt; read_declarations(THREE)?.as_slice().len() == 3);
     refused(
+        &rt,
+        &THREE[..1],
+        LoadFault::CutDeclaration(ReadingFault::Cut(1)),
+    )?;
+    refused(
+        &rt,
         &THREE[..32],
         LoadFault::CutDeclaration(ReadingFault::Cut(17)),
     )?;
     refused(
+        &rt,
         &THREE[..48],
         LoadFault::CutDeclaration(ReadingFault::Cut(33)),
     )?;
-    refused(LAST_BAD, LoadFault::BadDeclaration(33))?;
+    refused(&rt, LAST_BAD, LoadFault::BadDeclaration(33))?;
     refused(
+        &rt,
         &LAST_BAD[..48],
         LoadFault::CutDeclaration(ReadingFault::Cut(33)),
     )?;
-    refused(&LAST_TWO_BAD[..48], LoadFault::BadDeclaration(17))
+    refused(&rt, &LAST_TWO_BAD[..48], LoadFault::BadDeclaration(17))
 }
 
 #[test]
-fn owners_among_threads() -> Result<(), Fail> {
+fn owners_among_threads(rt: HostRuntime) -> Result<(), Fail> {
     let declarations = read_declarations(THREE)?;
-    check(owners_live(&declarations, 2).is_ok())?;
-    check_eq(
+    assert!(rt; owners_live(&declarations, 2).is_ok());
+    assert_eq!(rt;
         owners_live(&declarations, 1),
-        Err(LoadFault::BadDeclaration(17)),
-    )?;
-    check_eq(
+        Err(LoadFault::BadDeclaration(17))
+    );
+    assert_eq!(rt;
         owners_live(&declarations, 0),
-        Err(LoadFault::BadDeclaration(1)),
-    )?;
-    check(owners_live(&Declarations::none(), 0).is_ok())
+        Err(LoadFault::BadDeclaration(1))
+    );
+    assert!(rt; owners_live(&Declarations::none(), 0).is_ok());
+    Ok(())
 }
 
 #[test]
-fn scopes_of_threads() -> Result<(), Fail> {
+fn scopes_of_threads(rt: HostRuntime) -> Result<(), Fail> {
     let declarations = read_declarations(THREE)?;
     for (number, thread, reads, sets) in SCOPES {
-        check(may_read(declarations.as_slice(), thread, number) == reads)?;
-        check(may_set(declarations.as_slice(), thread, number) == sets)?;
+        assert!(rt; may_read(declarations.as_slice(), thread, number) == reads);
+        assert!(rt; may_set(declarations.as_slice(), thread, number) == sets);
     }
     Ok(())
 }

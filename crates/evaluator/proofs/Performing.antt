@@ -1,28 +1,17 @@
 -- What the calls of the evaluator leave on the stack is what the commands do to the stacked values.
-use Prim.Native.Nat.{ℕ, _+_, _-_, _<_, _≤_}
-use mathlib.Core.Bool.{true, false, cond}
-use mathlib.Core.List.{List, [], _∷_}
-use mathlib.Core.Path.{_≡_, refl, sym, ap, subst, _∙_}
-use native.Mathlib.Omega.{arith}
-use denote.Ref.{now}
-use lib.Dec.{ltb}
-use lib.ListN.{length}
-use Rattle·std.specs.declared.option.Option.{Option}
-use Rattle·std.specs.declared.option.Option.the-variants.{Some, None}
-use Rattle·std.specs.declared.result.Result.{Result}
-use Rattle·std.specs.declared.result.Result.the-variants.{Ok, Err}
-use Rattle·std.proofs.shelf.Tests.{lt-ltb}
-use Rattle·evaluator·specs.Evaluating.{stack-one, operate-one, operate-two}
-use Rattle·stack.specs.Stacks.{stacked, room, popped-value, popped-rest}
-use Rattle·bounds.specs.declared.refusal.Refusal.{Refusal}
-use Rattle·bounds.specs.declared.refusal.Refusal.the-variants.{BadExpression}
-use Rattle·stack.specs.declared.Stack.{Stack}
-use Rattle·stack.proofs.Stacking.{depth-is}
+use Rattle.std.proofs.Common.{◌≡◌, ℕ, ◌+◌, ◌-◌, ◌<◌, ◌≤◌, true, false, cond, ltb, List, [], ◌∷◌, length, Some, None, Ok, Err, Option, Result, sym, refl, ap, ◌∙◌, subst, arith}
+use Rattle.std.proofs.lemmas.Bool.{lt-ltb}
+use Rattle.evaluator.specs.Evaluating.{stack-one, operate-one, operate-two}
+use Rattle.stack.specs.Stacks.{stacked, room, popped-value, popped-rest}
+use Rattle.bounds.specs.declared.refusal.Refusal.{Refusal}
+use Rattle.bounds.specs.declared.refusal.Refusal.TheVariants.{BadExpression}
+use Rattle.stack.specs.declared.Stack.{Stack}
+use Rattle.stack.proofs.Stacking.{depth_is}
 
 module _ {V : Type 0} where
   -- No more is stacked than there is room for.
   pub within-room : (s : Stack V) → length (stacked s) ≤ room s
-  within-room s = let f = s .fits in omega (arith, depth-is (now (s .places)) (s .base) (s .depth) f)
+  within-room s = let f = s.fits in omega (arith, depth_is s.places.now s.base s.depth f)
 
   -- With room, a value is stacked.
   pub stacked-one : (p : ℕ) (x : V) (st : List V) → length st < 16 → stack-one p x st ≡ Ok (x ∷ st)
@@ -32,7 +21,7 @@ module _ {V : Type 0} where
     -- A value popped, changed and pushed again.
     pub one-operated : (st st1 : List V) (x y : V) (r : Result (List V) Refusal) → length st ≤ 16 →
         Some x ≡ popped-value st → st1 ≡ popped-rest st → y ≡ f x → r ≡ stack-one p y st1 → r ≡ operate-one p f st
-    one-operated [] st1 x y r h top rest is e = absurd (let z : _≡_ {A = ℕ} 0 1 = cc in omega arith)
+    one-operated [] st1 x y r h top rest is e = absurd (let z : ◌≡◌ {A = ℕ} 0 1 = cc in omega arith)
     one-operated (v ∷ st) st1 x y r h top rest is e =
         let same : y ∷ st1 ≡ f v ∷ st = cc in
         let few : length st1 < 16 = subst (λ (l : List V). length l < 16) (sym rest) (omega arith) in
@@ -43,10 +32,10 @@ module _ {V : Type 0} where
     pub two-operated : (st st1 st2 : List V) (x y z : V) (r : Result (List V) Refusal) → length st ≤ 16 →
         Some y ≡ popped-value st → st1 ≡ popped-rest st → Some x ≡ popped-value st1 → st2 ≡ popped-rest st1 →
         z ≡ f x y → r ≡ stack-one p z st2 → r ≡ operate-two p f st
-    two-operated [] st1 st2 x y z r h top rest top2 rest2 is e = absurd (let q : _≡_ {A = ℕ} 0 1 = cc in omega arith)
+    two-operated [] st1 st2 x y z r h top rest top2 rest2 is e = absurd (let q : ◌≡◌ {A = ℕ} 0 1 = cc in omega arith)
     two-operated (v ∷ []) st1 st2 x y z r h top rest top2 rest2 is e =
         let none : Some x ≡ None = top2 ∙ ap popped-value rest in
-        absurd (let q : _≡_ {A = ℕ} 0 1 = cc in omega arith)
+        absurd (let q : ◌≡◌ {A = ℕ} 0 1 = cc in omega arith)
     two-operated (v ∷ w ∷ st) st1 st2 x y z r h top rest top2 rest2 is e =
         let second : Some x ≡ Some w = top2 ∙ ap popped-value rest in
         let left : st2 ≡ st = rest2 ∙ ap popped-rest rest in

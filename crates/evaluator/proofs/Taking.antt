@@ -1,38 +1,28 @@
 -- The first command of bytes, by its first byte, and what taking it gives.
-use Prim.Native.Nat.{ℕ, suc, _+_, _-_, _<_, _≤_}
-use mathlib.Core.Bool.{true, false, cond}
-use mathlib.Core.List.{List, [], _∷_}
-use mathlib.Core.Path.{_≡_, refl, sym, ap, subst, _∙_}
-use native.Mathlib.Omega.{arith}
-use denote.Ref.{RefT}
-use lib.ListN.{length, getD, take, drop}
-use Rattle·std.specs.declared.option.Option.{Option}
-use Rattle·std.specs.declared.option.Option.the-variants.{Some, None}
-use Rattle·std.specs.declared.result.Result.{Result}
-use Rattle·std.specs.declared.result.Result.the-variants.{Ok, Err}
-use Rattle·std.proofs.shelf.Lists.{take-rest, length-drop}
-use Rattle·arithmetic.specs.Meaning.{Meaning}
-use Rattle·arithmetic.specs.Operators.{operator-byte, No-operator}
-use Rattle·arithmetic.specs.declared.operators.Operator.{Operator}
-use Rattle·arithmetic.specs.declared.operators.Operator.the-variants.{Add, Subtract, Multiply, Lesser, Greater, LessThan, Equal}
-use Rattle·evaluator·specs.Commands.{Command, constant, variable, operator, inversion, signed-of, next-command}
-use Rattle·evaluator·specs.Evaluating.{performed, taken}
-use Rattle·evaluator·specs.Outcomes.{mapped, leaving-with}
-use Rattle·bounds.specs.declared.refusal.Refusal.{Refusal}
+use Rattle.std.proofs.Common.{◌≡◌, ℕ, suc, ◌+◌, ◌-◌, ◌<◌, ◌≤◌, true, false, cond, List, [], ◌∷◌, length, get_or, take, drop, Some, None, Ok, Err, Option, Result, sym, refl, ap, ◌∙◌, subst, arith, Bor}
+use Rattle.std.proofs.lemmas.List.{take_rest, length-drop}
+use Rattle.arithmetic.specs.Meaning.{Meaning}
+use Rattle.arithmetic.specs.Operators.{operator-byte, No-operator}
+use Rattle.arithmetic.specs.declared.operators.Operator.{Operator}
+use Rattle.arithmetic.specs.declared.operators.Operator.TheVariants.{Add, Subtract, Multiply, Lesser, Greater, LessThan, Equal}
+use Rattle.evaluator.specs.Commands.{Command, constant, variable, operator, inversion, signed_of, next-command}
+use Rattle.evaluator.specs.Evaluating.{performed, taken}
+use Rattle.evaluator.specs.Outcomes.{mapped, leaving-with}
+use Rattle.bounds.specs.declared.refusal.Refusal.{Refusal}
 
 -- The bytes of a code from place i on, as the checker writes a part.
 abbrev pub from : ℕ → List ℕ → List ℕ
 from i bs = take (length bs - i) (drop i bs)
 
 -- A constant is followed by four bytes.
-pub constant-first : (bs : List ℕ) → getD bs 0 0 ≡ 0x40 → 4 ≤ length (from 1 bs) →
-    next-command bs ≡ Some (constant (signed-of (getD (from 1 bs) 0 0) (getD (from 1 bs) 1 0) (getD (from 1 bs) 2 0) (getD (from 1 bs) 3 0)), from 4 (from 1 bs))
+pub constant-first : (bs : List ℕ) → get_or bs 0 0 ≡ 0x40 → 4 ≤ length (from 1 bs) →
+    next-command bs ≡ Some (constant (signed_of (get_or (from 1 bs) 0 0) (get_or (from 1 bs) 1 0) (get_or (from 1 bs) 2 0) (get_or (from 1 bs) 3 0)), from 4 (from 1 bs))
 constant-first bs e h =
-    let Goal : List ℕ → Type 0 = λ r. next-command bs ≡ Some (constant (signed-of (getD r 0 0) (getD r 1 0) (getD r 2 0) (getD r 3 0)), from 4 r) in
+    let Goal : List ℕ → Type 0 = λ r. next-command bs ≡ Some (constant (signed_of (get_or r 0 0) (get_or r 1 0) (get_or r 2 0) (get_or r 3 0)), from 4 r) in
     let Part : List ℕ → Type 0 = λ r. 4 ≤ length r in
-    subst Goal (sym (take-rest bs 1)) (go bs e (subst Part (take-rest bs 1) h)) where
-      go : (bs : List ℕ) → getD bs 0 0 ≡ 0x40 → 4 ≤ length (drop 1 bs) →
-          next-command bs ≡ Some (constant (signed-of (getD (drop 1 bs) 0 0) (getD (drop 1 bs) 1 0) (getD (drop 1 bs) 2 0) (getD (drop 1 bs) 3 0)), from 4 (drop 1 bs))
+    subst Goal (sym (take_rest bs 1)) (go bs e (subst Part (take_rest bs 1) h)) where
+      go : (bs : List ℕ) → get_or bs 0 0 ≡ 0x40 → 4 ≤ length (drop 1 bs) →
+          next-command bs ≡ Some (constant (signed_of (get_or (drop 1 bs) 0 0) (get_or (drop 1 bs) 1 0) (get_or (drop 1 bs) 2 0) (get_or (drop 1 bs) 3 0)), from 4 (drop 1 bs))
       go [] e h = absurd (omega arith)
       go (b ∷ []) e h = absurd (omega arith)
       go (b ∷ a1 ∷ []) e h = absurd (omega arith)
@@ -40,31 +30,31 @@ constant-first bs e h =
       go (b ∷ a1 ∷ a2 ∷ a3 ∷ []) e h = absurd (omega arith)
       go (b ∷ a1 ∷ a2 ∷ a3 ∷ a4 ∷ bs) e h =
           ap (λ n. next-command (n ∷ a1 ∷ a2 ∷ a3 ∷ a4 ∷ bs)) e
-          ∙ ap (λ r. Some (constant (signed-of a1 a2 a3 a4), r)) (sym (take-rest (a1 ∷ a2 ∷ a3 ∷ a4 ∷ bs) 4))
+          ∙ ap (λ r. Some (constant (signed_of a1 a2 a3 a4), r)) (sym (take_rest (a1 ∷ a2 ∷ a3 ∷ a4 ∷ bs) 4))
 
 -- A variable is followed by its number.
-pub variable-first : (bs : List ℕ) → getD bs 0 0 ≡ 0x41 → 1 ≤ length (from 1 bs) →
-    next-command bs ≡ Some (variable (getD (from 1 bs) 0 0), from 1 (from 1 bs))
+pub variable-first : (bs : List ℕ) → get_or bs 0 0 ≡ 0x41 → 1 ≤ length (from 1 bs) →
+    next-command bs ≡ Some (variable (get_or (from 1 bs) 0 0), from 1 (from 1 bs))
 variable-first bs e h =
-    let Goal : List ℕ → Type 0 = λ r. next-command bs ≡ Some (variable (getD r 0 0), from 1 r) in
+    let Goal : List ℕ → Type 0 = λ r. next-command bs ≡ Some (variable (get_or r 0 0), from 1 r) in
     let Part : List ℕ → Type 0 = λ r. 1 ≤ length r in
-    subst Goal (sym (take-rest bs 1)) (go bs e (subst Part (take-rest bs 1) h)) where
-      go : (bs : List ℕ) → getD bs 0 0 ≡ 0x41 → 1 ≤ length (drop 1 bs) → next-command bs ≡ Some (variable (getD (drop 1 bs) 0 0), from 1 (drop 1 bs))
+    subst Goal (sym (take_rest bs 1)) (go bs e (subst Part (take_rest bs 1) h)) where
+      go : (bs : List ℕ) → get_or bs 0 0 ≡ 0x41 → 1 ≤ length (drop 1 bs) → next-command bs ≡ Some (variable (get_or (drop 1 bs) 0 0), from 1 (drop 1 bs))
       go [] e h = absurd (omega arith)
       go (b ∷ []) e h = absurd (omega arith)
-      go (b ∷ v ∷ bs) e h = ap (λ n. next-command (n ∷ v ∷ bs)) e ∙ ap (λ r. Some (variable v, r)) (sym (take-rest (v ∷ bs) 1))
+      go (b ∷ v ∷ bs) e h = ap (λ n. next-command (n ∷ v ∷ bs)) e ∙ ap (λ r. Some (variable v, r)) (sym (take_rest (v ∷ bs) 1))
 
 -- Bytes whose first is not 0 are some.
-pub some-bytes : (bs : List ℕ) (n : ℕ) → getD bs 0 0 ≡ n → 0 < n → 0 < length bs
-some-bytes [] n e h = absurd (omega arith)
-some-bytes (b ∷ bs) n e h = omega arith
+pub some_bytes : (bs : List ℕ) (n : ℕ) → get_or bs 0 0 ≡ n → 0 < n → 0 < length bs
+some_bytes [] n e h = absurd (omega arith)
+some_bytes (b ∷ bs) n e h = omega arith
 
 -- A command of one byte.
-single-first : (bs : List ℕ) (n : ℕ) (c : Command) → getD bs 0 0 ≡ n → 0 < n → ((r : List ℕ) → next-command (n ∷ r) ≡ Some (c, r)) → next-command bs ≡ Some (c, from 1 bs)
+single-first : (bs : List ℕ) (n : ℕ) (c : Command) → get_or bs 0 0 ≡ n → 0 < n → ((r : List ℕ) → next-command (n ∷ r) ≡ Some (c, r)) → next-command bs ≡ Some (c, from 1 bs)
 single-first [] n c e h k = absurd (omega arith)
-single-first (b ∷ bs) n c e h k = ap (λ m. next-command (m ∷ bs)) e ∙ k bs ∙ ap (λ r. Some (c, r)) (sym (take-rest (b ∷ bs) 1))
+single-first (b ∷ bs) n c e h k = ap (λ m. next-command (m ∷ bs)) e ∙ k bs ∙ ap (λ r. Some (c, r)) (sym (take_rest (b ∷ bs) 1))
 
-pub inversion-first : (bs : List ℕ) → getD bs 0 0 ≡ 0x49 → next-command bs ≡ Some (inversion, from 1 bs)
+pub inversion-first : (bs : List ℕ) → get_or bs 0 0 ≡ 0x49 → next-command bs ≡ Some (inversion, from 1 bs)
 inversion-first bs e = single-first bs 0x49 inversion e (omega arith) (λ r. refl)
 
 pub operator-positive : (o : Operator) → 0 < operator-byte o
@@ -76,7 +66,7 @@ operator-positive Greater = omega arith
 operator-positive LessThan = omega arith
 operator-positive Equal = omega arith
 
-pub operator-first : (bs : List ℕ) (o : Operator) → operator-byte o ≡ getD bs 0 0 → next-command bs ≡ Some (operator o, from 1 bs)
+pub operator-first : (bs : List ℕ) (o : Operator) → operator-byte o ≡ get_or bs 0 0 → next-command bs ≡ Some (operator o, from 1 bs)
 operator-first bs o e = single-first bs (operator-byte o) (operator o) (sym e) (operator-positive o) (at o) where
   at : (o : Operator) (r : List ℕ) → next-command (operator-byte o ∷ r) ≡ Some (operator o, r)
   at Add r = refl
@@ -89,28 +79,28 @@ operator-first bs o e = single-first bs (operator-byte o) (operator o) (sym e) (
 
 -- Each byte from 42 to 48 is an operator's.
 pub operators-cover : (b : ℕ) → 0x42 ≤ b → b ≤ 0x48 → No-operator b → ⊥
-operators-cover b low high no-one =
-    let a0 = no-one Add in let a1 = no-one Subtract in let a2 = no-one Multiply in let a3 = no-one Lesser in
-    let a4 = no-one Greater in let a5 = no-one LessThan in let a6 = no-one Equal in
+operators-cover b low high no_one =
+    let a0 = no_one Add in let a1 = no_one Subtract in let a2 = no_one Multiply in let a3 = no_one Lesser in
+    let a4 = no_one Greater in let a5 = no_one LessThan in let a6 = no_one Equal in
     omega arith
 
 -- What follows a first byte, and what follows there, is shorter than the whole.
-pub shorter-one : (bs : List ℕ) (n : ℕ) → getD bs 0 0 ≡ n → 0 < n → length (from 1 bs) < length bs
-shorter-one bs n e h = let k = some-bytes bs n e h in subst (λ (l : List ℕ). length l < length bs) (sym (take-rest bs 1)) (omega (arith, length-drop 1 bs))
+pub shorter-one : (bs : List ℕ) (n : ℕ) → get_or bs 0 0 ≡ n → 0 < n → length (from 1 bs) < length bs
+shorter-one bs n e h = let k = some_bytes bs n e h in subst (λ (l : List ℕ). length l < length bs) (sym (take_rest bs 1)) (omega (arith, length-drop 1 bs))
 
-pub shorter-more : (bs : List ℕ) (i n : ℕ) → getD bs 0 0 ≡ n → 0 < n → length (from i (from 1 bs)) < length bs
+pub shorter-more : (bs : List ℕ) (i n : ℕ) → get_or bs 0 0 ≡ n → 0 < n → length (from i (from 1 bs)) < length bs
 shorter-more bs i n e h =
     let k = shorter-one bs n e h in
-    subst (λ (l : List ℕ). length l < length bs) (sym (take-rest (from 1 bs) i)) (omega (arith, length-drop i (from 1 bs)))
+    subst (λ (l : List ℕ). length l < length bs) (sym (take_rest (from 1 bs) i)) (omega (arith, length-drop i (from 1 bs)))
 
 module _ {V : Type 0} (M : Meaning V) (look : ℕ → Option V) (p : ℕ) where
   -- A command that leaves values.
-  pub taken-ok : (o : Option (Command × List ℕ)) (c : Command) (rest : List ℕ) (st st′ : List V) →
-      o ≡ Some (c, rest) → Ok st′ ≡ performed M look p c st → Ok (st′, rest) ≡ taken M look p o st
-  taken-ok o c rest st st′ e h = ap (mapped (λ st″. (st″, rest))) h ∙ ap (λ q. taken M look p q st) (sym e)
+  pub taken-ok : (o : Option (Command × List ℕ)) (c : Command) (rest : List ℕ) (st st' : List V) →
+      o ≡ Some (c, rest) → Ok st' ≡ performed M look p c st → Ok (st', rest) ≡ taken M look p o st
+  taken-ok o c rest st st' e h = ap (mapped (λ st''. (st'', rest))) h ∙ ap (λ q. taken M look p q st) (sym e)
 
   -- A command that is refused, as the exit of a `?` answers it.
-  pub taken-break : (o : Option (Command × List ℕ)) (c : Command) (rest : List ℕ) (st left : List V) (r : Result (RefT (List ℕ)) Refusal) (e f : Refusal) →
+  pub taken-break : (o : Option (Command × List ℕ)) (c : Command) (rest : List ℕ) (st left : List V) (r : Result (Bor (List ℕ)) Refusal) (e f : Refusal) →
       r ≡ Err e → e ≡ f → o ≡ Some (c, rest) → Err f ≡ performed M look p c st → leaving-with left r ≡ taken M look p o st
   taken-break o c rest st left r e f was same read h =
-      ap (leaving-with left) (was ∙ ap Err same) ∙ ap (mapped (λ st″. (st″, rest))) h ∙ ap (λ q. taken M look p q st) (sym read)
+      ap (leaving-with left) (was ∙ ap Err same) ∙ ap (mapped (λ st''. (st'', rest))) h ∙ ap (λ q. taken M look p q st) (sym read)

@@ -1,17 +1,10 @@
 -- The commands of an expression, and how they are written as bytes and read again.
-use Prim.Native.Nat.{ℕ, zero, suc, _+_, _-_, _*_, _/_, _%_, _<_}
-use mathlib.Core.Bool.{Bool, true, false, cond}
-use mathlib.Core.List.{List, [], _∷_, _++_}
-use lib.Dec.{eqb}
-use lib.IntN.{ℤ}
-use lib.ListN.{length}
-use mir.Syntax.{w32}
-use mir.Val.{toZ, ofZ, SFits}
-use Rattle·std.specs.declared.option.Option.{Option}
-use Rattle·std.specs.declared.option.Option.the-variants.{Some, None}
-use Rattle·arithmetic.specs.declared.operators.Operator.{Operator}
-use Rattle·arithmetic.specs.declared.operators.Operator.the-variants.{Add, Subtract, Multiply, Lesser, Greater, LessThan, Equal}
-use Rattle·arithmetic.specs.Operators.{operator-byte, not-byte}
+use Rattle.std.specs.Prelude.{ℕ, zero, suc, ◌+◌, ◌-◌, ◌*◌, ◌/◌, ◌%◌, ◌<◌, Bool, true, false, cond, List, [], ◌∷◌, ◌++◌, length, ℤ, Some, None, Option, FitsSigned, ◌==◌}
+use Rattle.std.specs.Int.{w32}
+use Rattle.std.proofs.Common.{to_z, of_z}
+use Rattle.arithmetic.specs.declared.operators.Operator.{Operator}
+use Rattle.arithmetic.specs.declared.operators.Operator.TheVariants.{Add, Subtract, Multiply, Lesser, Greater, LessThan, Equal}
+use Rattle.arithmetic.specs.Operators.{operator-byte, not_byte}
 
 -- A command stacks a constant or a variable's value, or replaces stacked values by what an operator gives of them.
 pub data Command : Type 0 where
@@ -25,19 +18,19 @@ abbrev pub command-byte : Command → ℕ
 command-byte (constant n) = 0x40
 command-byte (variable v) = 0x41
 command-byte (operator o) = operator-byte o
-command-byte inversion = not-byte
+command-byte inversion = not_byte
 
 -- The four bytes of a number below 2^32, the low byte first.
-abbrev pub four-bytes : ℕ → List ℕ
-four-bytes n = n % 256 ∷ n / 256 % 256 ∷ n / 65536 % 256 ∷ n / 16777216 ∷ []
+abbrev pub four_bytes : ℕ → List ℕ
+four_bytes n = n % 256 ∷ n / 256 % 256 ∷ n / 65536 % 256 ∷ n / 16777216 ∷ []
 
 -- The signed number that four bytes hold, the low byte first.
-abbrev pub signed-of : (a b c d : ℕ) → ℤ
-signed-of a b c d = toZ w32 (a + b * 256 + c * 65536 + d * 16777216)
+abbrev pub signed_of : (a b c d : ℕ) → ℤ
+signed_of a b c d = to_z w32 (a + b * 256 + c * 65536 + d * 16777216)
 
 -- A constant is followed by its four bytes, a variable by its number.
 abbrev pub operands : Command → List ℕ
-operands (constant n) = four-bytes (ofZ w32 n)
+operands (constant n) = four_bytes (of_z w32 n)
 operands (variable v) = v ∷ []
 operands (operator o) = []
 operands inversion = []
@@ -49,7 +42,7 @@ written (c ∷ cs) = command-byte c ∷ operands c ++ written cs
 
 -- Commands that can be written: constants of 32 bits, variable numbers of one byte.
 abbrev pub Writable : Command → Type 0
-Writable (constant n) = SFits w32 n
+Writable (constant n) = FitsSigned w32 n
 Writable (variable v) = v < 256
 Writable (operator o) = Unit {0}
 Writable inversion = Unit {0}
@@ -57,7 +50,7 @@ Writable inversion = Unit {0}
 -- The first operator of a list that has the byte b, if one has it.
 abbrev pub operator-among : List Operator → ℕ → Option Command
 operator-among [] b = None
-operator-among (o ∷ os) b = cond (eqb b (operator-byte o)) (Some (operator o)) (operator-among os b)
+operator-among (o ∷ os) b = cond (b == operator-byte o) (Some (operator o)) (operator-among os b)
 
 -- There are seven operators on two values.
 abbrev pub operators : List Operator
@@ -65,7 +58,7 @@ operators = Add ∷ Subtract ∷ Multiply ∷ Lesser ∷ Greater ∷ LessThan �
 
 -- A command of one byte is `not` or an operator on two values; any other byte is none.
 abbrev pub single : ℕ → Option Command
-single b = cond (eqb b not-byte) (Some inversion) (operator-among operators b)
+single b = cond (b == not_byte) (Some inversion) (operator-among operators b)
 
 -- A constant, where four bytes are left for it, and what follows it.
 abbrev pub constant-in : List ℕ → Option (Command × List ℕ)
@@ -73,7 +66,7 @@ constant-in [] = None
 constant-in (a ∷ []) = None
 constant-in (a ∷ b ∷ []) = None
 constant-in (a ∷ b ∷ c ∷ []) = None
-constant-in (a ∷ b ∷ c ∷ d ∷ bs) = Some (constant (signed-of a b c d), bs)
+constant-in (a ∷ b ∷ c ∷ d ∷ bs) = Some (constant (signed_of a b c d), bs)
 
 -- A variable, where a byte is left for its number, and what follows it.
 abbrev pub variable-in : List ℕ → Option (Command × List ℕ)
@@ -81,14 +74,14 @@ variable-in [] = None
 variable-in (v ∷ bs) = Some (variable v, bs)
 
 -- A command of one byte is followed by all bytes that are left.
-abbrev pub with-rest : Option Command → List ℕ → Option (Command × List ℕ)
-with-rest None bs = None
-with-rest (Some c) bs = Some (c, bs)
+abbrev pub with_rest : Option Command → List ℕ → Option (Command × List ℕ)
+with_rest None bs = None
+with_rest (Some c) bs = Some (c, bs)
 
 -- The first byte says which command it is; its operands and what follows it come after.
 abbrev pub next-command : List ℕ → Option (Command × List ℕ)
 next-command [] = None
-next-command (b ∷ bs) = cond (eqb b 0x40) (constant-in bs) (cond (eqb b 0x41) (variable-in bs) (with-rest (single b) bs))
+next-command (b ∷ bs) = cond (b == 0x40) (constant-in bs) (cond (b == 0x41) (variable-in bs) (with_rest (single b) bs))
 
 -- A command with its place, counted from the expression's byte 0; none where no command can be read there.
 pub record Placed : Type 0 where
@@ -98,7 +91,7 @@ pub record Placed : Type 0 where
 -- A command is listed at place p; where none can be read, the list ends.
 abbrev pub listed : (List ℕ → List Placed) → ℕ → Option (Command × List ℕ) → List Placed
 listed more p None = record { place = p; command = None } ∷ []
-listed more p (Some c) = record { place = p; command = Some (c .0) } ∷ more (c .1)
+listed more p (Some c) = record { place = p; command = Some c.0 } ∷ more c.1
 
 -- The commands in bytes of which the last `length bs` of `end` are left; `fuel` is at least as many.
 abbrev pub listing : (fuel end : ℕ) → List ℕ → List Placed
@@ -111,12 +104,12 @@ abbrev pub commands-of : List ℕ → List Placed
 commands-of bs = listing (length bs) (length bs) bs
 
 -- A command stands before others if it and they could be read.
-abbrev pub one-more : Option Command → Option (List Command) → Option (List Command)
-one-more None cs = None
-one-more (Some c) None = None
-one-more (Some c) (Some cs) = Some (c ∷ cs)
+abbrev pub one_more : Option Command → Option (List Command) → Option (List Command)
+one_more None cs = None
+one_more (Some c) None = None
+one_more (Some c) (Some cs) = Some (c ∷ cs)
 
 -- Commands are all read if each of them could be read.
-abbrev pub all-read : List Placed → Option (List Command)
-all-read [] = Some []
-all-read (p ∷ ps) = one-more (p .command) (all-read ps)
+abbrev pub all_read : List Placed → Option (List Command)
+all_read [] = Some []
+all_read (p ∷ ps) = one_more p.command (all_read ps)

@@ -1,19 +1,11 @@
 -- What an expression's value is.
-use Prim.Native.Nat.{ℕ}
-use mathlib.Core.Bool.{Bool, true, false, cond, _&&_}
-use mathlib.Core.List.{List, [], _∷_}
-use lib.Dec.{leb, ltb, eqb}
-use lib.ListN.{length, take}
-use Rattle·std.specs.declared.option.Option.{Option}
-use Rattle·std.specs.declared.option.Option.the-variants.{Some, None}
-use Rattle·std.specs.declared.result.Result.{Result}
-use Rattle·std.specs.declared.result.Result.the-variants.{Ok, Err}
-use Rattle·std.specs.shelf.Maps.{nth}
-use Rattle·arithmetic.specs.Meaning.{Meaning, two, inverse}
-use Rattle·evaluator·specs.Commands.{Command, constant, variable, operator, inversion, Placed, commands-of}
-use Rattle·evaluator·specs.Outcomes.{and-then, mapped}
-use Rattle·bounds.specs.declared.refusal.Refusal.{Refusal}
-use Rattle·bounds.specs.declared.refusal.Refusal.the-variants.{BadExpression, WrongVariable, Memory}
+use Rattle.std.specs.Prelude.{ℕ, Bool, true, false, cond, ◌&&◌, List, [], ◌∷◌, length, take, Some, None, Ok, Err, Option, Result, ◌==◌, nat_le, nat_lt}
+use Rattle.std.specs.List.{slice_get}
+use Rattle.arithmetic.specs.Meaning.{Meaning, two, inverse}
+use Rattle.evaluator.specs.Commands.{Command, constant, variable, operator, inversion, Placed, commands-of}
+use Rattle.evaluator.specs.Outcomes.{and_then, mapped}
+use Rattle.bounds.specs.declared.refusal.Refusal.{Refusal}
+use Rattle.bounds.specs.declared.refusal.Refusal.TheVariants.{BadExpression, WrongVariable, Memory}
 
 -- At most 16 values are stacked.
 abbrev pub deepest : ℕ
@@ -30,12 +22,12 @@ most-variables = 32
 module _ {V : Type 0} where
   -- One value more, while fewer than 16 are stacked; the last stacked stands first.
   abbrev pub stack-one : ℕ → V → List V → Result (List V) Refusal
-  stack-one p x st = cond (ltb (length st) deepest) (Ok (x ∷ st)) (Err (BadExpression p))
+  stack-one p x st = cond (nat_lt (length st) deepest) (Ok (x ∷ st)) (Err (BadExpression p))
 
   -- The value of a variable that can be read is stacked; else the variable is wrong, but want of room is found first.
   abbrev pub stack-found : ℕ → Option V → List V → Result (List V) Refusal
   stack-found p (Some x) st = stack-one p x st
-  stack-found p None st = cond (ltb (length st) deepest) (Err (WrongVariable p)) (Err (BadExpression p))
+  stack-found p None st = cond (nat_lt (length st) deepest) (Err (WrongVariable p)) (Err (BadExpression p))
 
   -- An operator replaces the last two values, of which the earlier stacked is its first; with fewer the expression is bad.
   abbrev pub operate-two : ℕ → (V → V → V) → List V → Result (List V) Refusal
@@ -57,16 +49,16 @@ module _ {V : Type 0} where
   -- A variable has what its place holds; without a place, or past the last, it cannot be read.
   abbrev pub value-at : List V → Option ℕ → Option V
   value-at vs None = None
-  value-at vs (Some p) = nth vs p
+  value-at vs (Some p) = slice_get vs p
 
 -- M says what values are; look gives the value of each variable that can be read.
 module _ {V : Type 0} (M : Meaning V) (look : ℕ → Option V) where
   -- The command at place p stacks a constant or a variable's value, or operates on stacked values.
   abbrev pub performed : ℕ → Command → List V → Result (List V) Refusal
-  performed p (constant n) st = stack-one p (M .constant n) st
+  performed p (constant n) st = stack-one p (M.constant n) st
   performed p (variable v) st = stack-found p (look v) st
-  performed p (operator o) st = operate-two p (λ x y. M .operated (two o x y)) st
-  performed p inversion st = operate-one p (λ x. M .operated (inverse x)) st
+  performed p (operator o) st = operate-two p (λ x y. M.operated (two o x y)) st
+  performed p inversion st = operate-one p (λ x. M.operated (inverse x)) st
 
   -- A command that could not be read is a bad expression at its place.
   abbrev pub step : ℕ → Option Command → List V → Result (List V) Refusal
@@ -76,16 +68,16 @@ module _ {V : Type 0} (M : Meaning V) (look : ℕ → Option V) where
   -- The commands are performed in turn, up to the first refusal.
   abbrev pub run : List Placed → List V → Result (List V) Refusal
   run [] st = Ok st
-  run (c ∷ cs) st = and-then (step (c .place) (c .command) st) (run cs)
+  run (c ∷ cs) st = and_then (step c.place c.command st) (run cs)
 
   -- The value of an expression's bytes; a length outside 1 to 64 is a bad expression at place 0.
   abbrev pub evaluated : List ℕ → Result V Refusal
-  evaluated bs = cond (leb 1 (length bs) && leb (length bs) longest) (and-then (run (commands-of bs) []) only) (Err (BadExpression 0))
+  evaluated bs = cond (nat_le 1 (length bs) && nat_le (length bs) longest) (and_then (run (commands-of bs) []) only) (Err (BadExpression 0))
 
   -- The command that was read at place p, with the bytes after it: the values then stacked, and those bytes.
   abbrev pub taken : ℕ → Option (Command × List ℕ) → List V → Result (List V × List ℕ) Refusal
   taken p None st = Err (BadExpression p)
-  taken p (Some c) st = mapped (λ st′. (st′, c .1)) (performed p (c .0) st)
+  taken p (Some c) st = mapped (λ st'. (st', c.1)) (performed p c.0 st)
 
 -- The value memory begins with 1,024 places of variables.
 abbrev pub variable-places : ℕ
@@ -97,6 +89,6 @@ all-places = 1040
 
 -- A memory of another length is refused; in one of 1,040 places `places` says where each variable lies that can be read.
 abbrev pub evaluated-in : {V : Type 0} → Meaning V → (places : ℕ → Option ℕ) → (memory : List V) → List ℕ → Result V Refusal
-evaluated-in M places memory bs = cond (eqb (length memory) all-places)
+evaluated-in M places memory bs = cond (length memory == all-places)
     (evaluated M (λ v. value-at (take variable-places memory) (places v)) bs)
     (Err Memory)

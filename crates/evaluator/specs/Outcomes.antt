@@ -1,13 +1,12 @@
 -- Answers that are a result or a refusal.
-use denote.Ref.{RefT, now}
-use Rattle·std.specs.declared.result.Result.{Result}
-use Rattle·std.specs.declared.result.Result.the-variants.{Ok, Err}
+use Rattle.std.specs.Borrow.{Bor}
+use Rattle.std.specs.Prelude.{Ok, Err, Result}
 
 module _ {A B E : Type 0} where
   -- A result goes on to the next function; a refusal stays.
-  abbrev pub and-then : Result A E → (A → Result B E) → Result B E
-  and-then (Ok a) f = f a
-  and-then (Err e) f = Err e
+  abbrev pub and_then : Result A E → (A → Result B E) → Result B E
+  and_then (Ok a) f = f a
+  and_then (Err e) f = Err e
 
   -- A function is applied to the result; a refusal stays.
   abbrev pub mapped : (A → B) → Result A E → Result B E
@@ -20,6 +19,6 @@ module _ {A B E : Type 0} where
   leaving b (Err e) = Err e
 
   -- A call that had a result left b, beside what the reference in the result points to; a refusal stays.
-  abbrev pub leaving-with : B → Result (RefT A) E → Result (B × A) E
-  leaving-with b (Ok a) = Ok (b, now a)
+  abbrev pub leaving-with : B → Result (Bor A) E → Result (B × A) E
+  leaving-with b (Ok a) = Ok (b, a.now)
   leaving-with b (Err e) = Err e

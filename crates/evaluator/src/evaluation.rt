@@ -1,15 +1,11 @@
 //! The evaluator: from the bytes of an expression to its value.
-ghost use mathlib.Core.List.{[], _∷_};
-ghost use mathlib.Core.Path.{_≡_};
-ghost use Prim.Native.Nat.{_+_, _<_, _≤_};
-ghost use denote.Ref.{name};
-ghost use lib.ListN.{length, take};
-ghost use Rattle·std.specs.Vec.{made};
-ghost use Rattle·arithmetic.specs.Meaning.{two, inverse};
-ghost use Rattle·evaluator·specs.Commands.{next-command, commands-of};
-ghost use Rattle·evaluator·specs.Evaluating.{stack-one, stack-found, operate-two, operate-one, only, value-at, taken, run, evaluated-in};
-ghost use Rattle·evaluator·specs.Outcomes.{leaving, leaving-with};
-ghost use Rattle·stack.specs.Stacks.{stacked, room, before-base};
+ghost use Rattle.std.specs.Prelude.{◌≡◌, ◌+◌, ◌<◌, ◌≤◌, [], ◌∷◌, length, take, IfOk, ◌≢◌};
+ghost use Rattle.arithmetic.specs.Meaning.{two, inverse};
+ghost use Rattle.evaluator.specs.Commands.{next-command, commands-of};
+ghost use Rattle.evaluator.specs.Evaluating.{stack-one, stack-found, operate-two, operate-one, only, value-at, taken, run, evaluated-in};
+ghost use Rattle.evaluator.specs.Outcomes.{leaving, leaving-with};
+ghost use Rattle.stack.specs.Stacks.{stacked, room, before-base};
+
 use arithmetic::Arithmetic;
 use arithmetic::operators::Operator;
 use bounds::refusal::Refusal;
@@ -33,11 +29,11 @@ pub const MOST_VARIABLES: usize = 32;
 
 // One value more for the command at a place.
 fn stack_value<T: Copy>(stack: &mut Stack<'_, T>, value: T, place: usize) -> Result<(), Refusal>
-    requires { ⌜ room (now stack) ≡ 16 ⌝ }
-    ensures answer { λ r. ⌜ leaving (stacked (now (stack .exit))) r ≡ stack-one place value (stacked (now (stack .entry))) ⌝ }
-    ensures room { λ _. ⌜ room (now (stack .exit)) ≡ room (now (stack .entry)) ⌝ }
-    ensures before { λ _. ⌜ before-base (now (stack .exit)) ≡ before-base (now (stack .entry)) ⌝ }
-    ensures lender { λ _. ⌜ name (now (stack .exit) .places) ≡ name (now (stack .entry) .places) ⌝ }
+    requires { room stack.old ≡ 16 }
+    ensures answer { leaving (stacked stack.new) result ≡ stack-one place value (stacked stack.old) }
+    ensures room { room stack.new ≡ room stack.old }
+    ensures before { before-base stack.new ≡ before-base stack.old }
+    ensures lender { stack.new.places.ghost_name ≡ stack.old.places.ghost_name }
 {
     match stack.push(value) {
         Ok(()) => Ok(()),
@@ -47,7 +43,7 @@ fn stack_value<T: Copy>(stack: &mut Stack<'_, T>, value: T, place: usize) -> Res
 
 // What a variable holds, if it can be read.
 fn variable_value<T: Copy, S: Scope>(scope: &S, variable: u8, stack: &Stack<'_, T>) -> Option<T>
-    ensures { λ r. ⌜ r ≡ value-at (before-base (now (stack .entry))) (S·Scope .places (now (scope .entry)) variable) ⌝ }
+    ensures { result ≡ value-at (before-base stack.now) (S.Scope.places scope.now variable) }
 {
     let place = scope.place(variable)?;
     stack.before_base(place)
@@ -60,11 +56,11 @@ fn stack_variable<T: Copy, S: Scope>(
     place: usize,
     stack: &mut Stack<'_, T>,
 ) -> Result<(), Refusal>
-    requires { ⌜ room (now stack) ≡ 16 ⌝ ∗ ⌜ length (stacked (now stack)) < 16 ⌝ }
-    ensures answer { λ r. ⌜ leaving (stacked (now (stack .exit))) r ≡ stack-found place (value-at (before-base (now (stack .entry))) (S·Scope .places (now (scope .entry)) variable)) (stacked (now (stack .entry))) ⌝ }
-    ensures room { λ _. ⌜ room (now (stack .exit)) ≡ room (now (stack .entry)) ⌝ }
-    ensures before { λ _. ⌜ before-base (now (stack .exit)) ≡ before-base (now (stack .entry)) ⌝ }
-    ensures lender { λ _. ⌜ name (now (stack .exit) .places) ≡ name (now (stack .entry) .places) ⌝ }
+    requires { (room stack.old ≡ 16) × (length (stacked stack.old) < 16) }
+    ensures answer { leaving (stacked stack.new) result ≡ stack-found place (value-at (before-base stack.old) (S.Scope.places scope.now variable)) (stacked stack.old) }
+    ensures room { room stack.new ≡ room stack.old }
+    ensures before { before-base stack.new ≡ before-base stack.old }
+    ensures lender { stack.new.places.ghost_name ≡ stack.old.places.ghost_name }
 {
     match variable_value(scope, variable, stack) {
         Some(value) => stack_value(stack, value, place),
@@ -79,11 +75,11 @@ fn operate_on_two<A: Arithmetic>(
     place: usize,
     stack: &mut Stack<'_, A::Value>,
 ) -> Result<(), Refusal>
-    requires { ⌜ room (now stack) ≡ 16 ⌝ }
-    ensures answer { λ r. ⌜ leaving (stacked (now (stack .exit))) r ≡ operate-two place (λ x y. A·Arithmetic .meaning (now (arithmetic .entry)) .operated (two operator x y)) (stacked (now (stack .entry))) ⌝ }
-    ensures room { λ _. ⌜ room (now (stack .exit)) ≡ room (now (stack .entry)) ⌝ }
-    ensures before { λ _. ⌜ before-base (now (stack .exit)) ≡ before-base (now (stack .entry)) ⌝ }
-    ensures lender { λ _. ⌜ name (now (stack .exit) .places) ≡ name (now (stack .entry) .places) ⌝ }
+    requires { room stack.old ≡ 16 }
+    ensures answer { leaving (stacked stack.new) result ≡ operate-two place (λ x y. (A.Arithmetic.meaning arithmetic.now).operated (two operator x y)) (stacked stack.old) }
+    ensures room { room stack.new ≡ room stack.old }
+    ensures before { before-base stack.new ≡ before-base stack.old }
+    ensures lender { stack.new.places.ghost_name ≡ stack.old.places.ghost_name }
 {
     let Some(second) = stack.pop() else {
         return Err(Refusal::BadExpression(place));
@@ -100,11 +96,11 @@ fn operate_on_one<A: Arithmetic>(
     place: usize,
     stack: &mut Stack<'_, A::Value>,
 ) -> Result<(), Refusal>
-    requires { ⌜ room (now stack) ≡ 16 ⌝ }
-    ensures answer { λ r. ⌜ leaving (stacked (now (stack .exit))) r ≡ operate-one place (λ x. A·Arithmetic .meaning (now (arithmetic .entry)) .operated (inverse x)) (stacked (now (stack .entry))) ⌝ }
-    ensures room { λ _. ⌜ room (now (stack .exit)) ≡ room (now (stack .entry)) ⌝ }
-    ensures before { λ _. ⌜ before-base (now (stack .exit)) ≡ before-base (now (stack .entry)) ⌝ }
-    ensures lender { λ _. ⌜ name (now (stack .exit) .places) ≡ name (now (stack .entry) .places) ⌝ }
+    requires { room stack.old ≡ 16 }
+    ensures answer { leaving (stacked stack.new) result ≡ operate-one place (λ x. (A.Arithmetic.meaning arithmetic.now).operated (inverse x)) (stacked stack.old) }
+    ensures room { room stack.new ≡ room stack.old }
+    ensures before { before-base stack.new ≡ before-base stack.old }
+    ensures lender { stack.new.places.ghost_name ≡ stack.old.places.ghost_name }
 {
     let Some(value) = stack.pop() else {
         return Err(Refusal::BadExpression(place));
@@ -120,12 +116,12 @@ fn perform<'a, A: Arithmetic, S: Scope>(
     place: usize,
     stack: &mut Stack<'_, A::Value>,
 ) -> Result<&'a [u8], Refusal>
-    requires { ⌜ room (now stack) ≡ 16 ⌝ }
-    ensures answer { λ r. ⌜ leaving-with (stacked (now (stack .exit))) r ≡ taken (A·Arithmetic .meaning (now (arithmetic .entry))) (λ v. value-at (before-base (now (stack .entry))) (S·Scope .places (now (scope .entry)) v)) place (next-command (now (code .entry))) (stacked (now (stack .entry))) ⌝ }
-    ensures shorter { λ r. ⌜ made r (λ rest. length (rest .now) < length (now (code .entry))) ⌝ }
-    ensures room { λ _. ⌜ room (now (stack .exit)) ≡ room (now (stack .entry)) ⌝ }
-    ensures before { λ _. ⌜ before-base (now (stack .exit)) ≡ before-base (now (stack .entry)) ⌝ }
-    ensures lender { λ _. ⌜ name (now (stack .exit) .places) ≡ name (now (stack .entry) .places) ⌝ }
+    requires { room stack.old ≡ 16 }
+    ensures answer { leaving-with (stacked stack.new) result ≡ taken (A.Arithmetic.meaning arithmetic.now) (λ v. value-at (before-base stack.old) (S.Scope.places scope.now v)) place (next-command code.now) (stacked stack.old) }
+    ensures shorter { IfOk result (λ rest. length rest.now < length code.now) }
+    ensures room { room stack.new ≡ room stack.old }
+    ensures before { before-base stack.new ≡ before-base stack.old }
+    ensures lender { stack.new.places.ghost_name ≡ stack.old.places.ghost_name }
 {
     let [command, rest @ ..] = code else {
         return Err(Refusal::BadExpression(place));
@@ -158,9 +154,9 @@ fn perform<'a, A: Arithmetic, S: Scope>(
 
 // The one value that remains.
 fn remaining<T: Copy>(stack: &mut Stack<'_, T>) -> Result<T, Refusal>
-    ensures answer { λ r. ⌜ r ≡ only (stacked (now (stack .entry))) ⌝ }
-    ensures before { λ _. ⌜ before-base (now (stack .exit)) ≡ before-base (now (stack .entry)) ⌝ }
-    ensures lender { λ _. ⌜ name (now (stack .exit) .places) ≡ name (now (stack .entry) .places) ⌝ }
+    ensures answer { result ≡ only (stacked stack.old) }
+    ensures before { before-base stack.new ≡ before-base stack.old }
+    ensures lender { stack.new.places.ghost_name ≡ stack.old.places.ghost_name }
 {
     if stack.depth() != 1 {
         return Err(Refusal::BadExpression(0));
@@ -178,10 +174,10 @@ fn run_commands<A: Arithmetic, S: Scope>(
     code: &[u8],
     stack: &mut Stack<'_, A::Value>,
 ) -> Result<(), Refusal>
-    requires { ⌜ room (now stack) ≡ 16 ⌝ ∗ ⌜ stacked (now stack) ≡ [] ⌝ }
-    ensures answer { λ r. ⌜ leaving (stacked (now (stack .exit))) r ≡ run (A·Arithmetic .meaning (now (arithmetic .entry))) (λ v. value-at (before-base (now (stack .entry))) (S·Scope .places (now (scope .entry)) v)) (commands-of (now (code .entry))) [] ⌝ }
-    ensures before { λ _. ⌜ before-base (now (stack .exit)) ≡ before-base (now (stack .entry)) ⌝ }
-    ensures lender { λ _. ⌜ name (now (stack .exit) .places) ≡ name (now (stack .entry) .places) ⌝ }
+    requires { (room stack.old ≡ 16) × (stacked stack.old ≡ []) }
+    ensures answer { leaving (stacked stack.new) result ≡ run (A.Arithmetic.meaning arithmetic.now) (λ v. value-at (before-base stack.old) (S.Scope.places scope.now v)) (commands-of code.now) [] }
+    ensures before { before-base stack.new ≡ before-base stack.old }
+    ensures lender { stack.new.places.ghost_name ≡ stack.old.places.ghost_name }
 {
     let mut rest = code;
     while !rest.is_empty() {
@@ -198,9 +194,9 @@ pub fn evaluate<A: Arithmetic, S: Scope>(
     code: &[u8],
     memory: &mut [A::Value],
 ) -> Result<A::Value, Refusal>
-    ensures answer { λ r. ⌜ r ≡ evaluated-in (A·Arithmetic .meaning (now (arithmetic .entry))) (S·Scope .places (now (scope .entry))) (now (memory .entry)) (now (code .entry)) ⌝ }
-    ensures variables { λ _. ⌜ take 1024 (now (memory .exit)) ≡ take 1024 (now (memory .entry)) ⌝ }
-    ensures refused { λ _. ⌜ ((length (now (memory .entry)) ≡ 1040 → ⊥) → now (memory .exit) ≡ now (memory .entry)) ⌝ }
+    ensures answer { result ≡ evaluated-in (A.Arithmetic.meaning arithmetic.now) (S.Scope.places scope.now) memory.old code.now }
+    ensures variables { take 1024 memory.new ≡ take 1024 memory.old }
+    ensures refused { (length memory.old ≢ 1040) → memory.new ≡ memory.old }
 {
     if memory.len() != ALL_PLACES {
         return Err(Refusal::Memory);

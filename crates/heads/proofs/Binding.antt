@@ -1,47 +1,39 @@
 -- Results in a row: what an accepted or refused row was made of.
-use mathlib.Core.Bool.{Bool, true, false}
-use mathlib.Core.Path.{_≡_, refl, ap, _∙_}
-use native.Mathlib.Omega.{arith}
-use Prim.Native.Nat.{ℕ}
-use Rattle·std.specs.declared.option.Option.{Option}
-use Rattle·std.specs.declared.option.Option.the-variants.{Some}
-use Rattle·std.specs.declared.result.Result.{Result}
-use Rattle·std.specs.declared.result.Result.the-variants.{Ok, Err}
-use Rattle·std.specs.Results.{ErrBy}
-use Rattle·evaluator.specs.Outcomes.{mapped}
-use Rattle·rules.specs.Outcomes.{_>>=_, ensure, from-some, refused-as}
+use Rattle.std.proofs.Common.{◌≡◌, ℕ, Bool, true, false, IsErrAnd, Some, Ok, Err, Option, Result, refl, ap, ◌∙◌, arith}
+use Rattle.evaluator.specs.Outcomes.{mapped}
+use Rattle.rules.specs.Outcomes.{◌>>=◌, ensure, from_some, refused_as}
 
 module _ {A B E : Type 0} where
   -- A row whose first result is there goes on.
-  pub bind-ok : (r : Result A E) (f : A → Result B E) {y : Result B E} (a : A) → r ≡ Ok a → f a ≡ y → (r >>= f) ≡ y
-  bind-ok r f a e h = ap (λ o. o >>= f) e ∙ h
+  pub bind_ok : (r : Result A E) (f : A → Result B E) {y : Result B E} (a : A) → r ≡ Ok a → f a ≡ y → (r >>= f) ≡ y
+  bind_ok r f a e h = ap (λ o. o >>= f) e ∙ h
 
   -- An accepted row had a first result.
-  pub bind-inv : (r : Result A E) (f : A → Result B E) (b : B) → (r >>= f) ≡ Ok b → (a : A) × (r ≡ Ok a) × (f a ≡ Ok b)
-  bind-inv (Ok a) f b e = (a, refl, e)
-  bind-inv (Err g) f b e = let z : _≡_ {A = ℕ} 0 1 = cc in absurd (omega arith)
+  pub bind_inv : (r : Result A E) (f : A → Result B E) (b : B) → (r >>= f) ≡ Ok b → (a : A) × (r ≡ Ok a) × (f a ≡ Ok b)
+  bind_inv (Ok a) f b e = (a, refl, e)
+  bind_inv (Err g) f b e = let z : ◌≡◌ {A = ℕ} 0 1 = cc in absurd (omega arith)
 
   -- What an accepted image is the image of.
   pub mapped-ok : (f : A → B) (r : Result A E) (b : B) → Ok b ≡ mapped f r → (a : A) × (r ≡ Ok a) × (f a ≡ b)
   mapped-ok f (Ok a) b e = (a, refl, cc)
-  mapped-ok f (Err g) b e = let z : _≡_ {A = ℕ} 0 1 = cc in absurd (omega arith)
+  mapped-ok f (Err g) b e = let z : ◌≡◌ {A = ℕ} 0 1 = cc in absurd (omega arith)
 
   -- A refused image is the image of that refusal.
   pub mapped-err : (f : A → B) (r : Result A E) (g : E) → Err g ≡ mapped f r → r ≡ Err g
-  mapped-err f (Ok a) g e = let z : _≡_ {A = ℕ} 0 1 = cc in absurd (omega arith)
+  mapped-err f (Ok a) g e = let z : ◌≡◌ {A = ℕ} 0 1 = cc in absurd (omega arith)
   mapped-err f (Err h) g e = cc
 
   -- A refusal that `?` hands on.
-  pub err-mapped : (f : A → B) (r : Result A E) (g : E) → ErrBy r (λ e. e ≡ g) → mapped f r ≡ Err g
+  pub err-mapped : (f : A → B) (r : Result A E) (g : E) → IsErrAnd r (λ e. e ≡ g) → mapped f r ≡ Err g
   err-mapped f (Ok a) g h = absurd h
   err-mapped f (Err e) g h = ap Err h
 
 module _ {A E : Type 0} where
-  pub some-ok : {o : Option A} (g : E) {a : A} → o ≡ Some a → from-some o g ≡ Ok a
-  some-ok g e = ap (λ x. from-some x g) e
+  pub some-ok : {o : Option A} (g : E) {a : A} → o ≡ Some a → from_some o g ≡ Ok a
+  some-ok g e = ap (λ x. from_some x g) e
 
-  pub same-ok : {a b : A} → _≡_ {A = Result A E} (Ok a) (Ok b) → a ≡ b
-  same-ok {a} {b} e = cc
+  pub same_ok : {a b : A} → ◌≡◌ {A = Result A E} (Ok a) (Ok b) → a ≡ b
+  same_ok {a} {b} e = cc
 
 module _ {E : Type 0} where
   pub ensure-ok : {b : Bool} (g : E) → b ≡ true → ensure b g ≡ Ok tt
@@ -50,14 +42,14 @@ module _ {E : Type 0} where
   -- After a test that held.
   pub ensure-then : {B : Type 0} (b : Bool) (g : E) (f : Unit {0} → Result B E) (y : B) → (ensure b g >>= f) ≡ Ok y → (b ≡ true) × (f tt ≡ Ok y)
   ensure-then true g f y e = (refl, e)
-  ensure-then false g f y e = let z : _≡_ {A = ℕ} 0 1 = cc in absurd (omega arith)
+  ensure-then false g f y e = let z : ◌≡◌ {A = ℕ} 0 1 = cc in absurd (omega arith)
 
 module _ {A E F : Type 0} where
   -- An upper layer keeps an answer.
-  pub refused-ok : (g : E → F) (r : Result A E) {a : A} → r ≡ Ok a → refused-as g r ≡ Ok a
-  refused-ok g r e = ap (refused-as g) e
+  pub refused-ok : (g : E → F) (r : Result A E) {a : A} → r ≡ Ok a → refused_as g r ≡ Ok a
+  refused-ok g r e = ap (refused_as g) e
 
   -- What an upper layer makes of a refusal is made whatever becomes of the answer.
-  pub refused-mapped : {B : Type 0} (f : A → B) (g : E → F) (r : Result A E) → mapped f (refused-as g r) ≡ refused-as g (mapped f r)
+  pub refused-mapped : {B : Type 0} (f : A → B) (g : E → F) (r : Result A E) → mapped f (refused_as g r) ≡ refused_as g (mapped f r)
   refused-mapped f g (Ok a) = refl
   refused-mapped f g (Err e) = refl

@@ -1,21 +1,14 @@
 -- What is left after bytes were taken from the front.
-use Prim.Native.Nat.{ℕ, suc, _+_, _-_, _*_, _≤_, _<_}
-use mathlib.Core.Bool.{Bool, true}
-use mathlib.Core.List.{List, [], _∷_}
-use mathlib.Core.Path.{_≡_, refl, sym, ap, _∙_}
-use native.Mathlib.Omega.{arith}
-use lib.ListN.{length, getD, take, drop, length-take, length-drop}
-use Rattle·std.specs.declared.result.Result.{Result}
-use Rattle·std.specs.declared.result.Result.the-variants.{Ok}
-use Rattle·std.proofs.shelf.Lists.{take-rest, take-take, take-all, drop-take, drop-drop}
-use Rattle·rules.specs.Reading.{byte-in, part-in, code-in, length-in}
-use Rattle·rules.specs.declared.faults.ReadingFault.{ReadingFault}
-use Rattle·heads·specs.Readers.{bytes-between}
-use Rattle·heads·proofs.Fronts.{byte-front, length-front, part-front, code-front}
+use Rattle.std.proofs.Common.{◌≡◌, ℕ, suc, ◌+◌, ◌-◌, ◌*◌, ◌<◌, ◌≤◌, Bool, true, List, [], ◌∷◌, length, get_or, take, drop, Ok, Result, sym, refl, ap, ◌∙◌, arith, length-drop, length-take}
+use Rattle.std.proofs.lemmas.List.{take_rest, take-take, take_all, drop-take, drop-drop}
+use Rattle.rules.specs.Reading.{byte-in, part_in, code_in, length-in}
+use Rattle.rules.specs.declared.faults.ReadingFault.{ReadingFault}
+use Rattle.heads.specs.Readers.{bytes-between}
+use Rattle.heads.proofs.Fronts.{byte-front, length_front, part-front, code-front}
 
-first-rest : (l : List ℕ) → 1 ≤ length l → l ≡ getD l 0 0 ∷ drop 1 l
-first-rest [] h = absurd (omega arith)
-first-rest (x ∷ l) h = refl
+first_rest : (l : List ℕ) → 1 ≤ length l → l ≡ get_or l 0 0 ∷ drop 1 l
+first_rest [] h = absurd (omega arith)
+first_rest (x ∷ l) h = refl
 
 module _ (bs : List ℕ) (p e : ℕ) (ordered : p ≤ e) (inside : e ≤ length bs) where
   -- From a place to an end within the program there are as many bytes as between the two numbers.
@@ -41,7 +34,7 @@ module _ (bs : List ℕ) (p e : ℕ) (ordered : p ≤ e) (inside : e ≤ length 
 
   -- There are no more than all.
   pub no-sooner : (n : ℕ) → e - p ≤ n → bytes-between bs p e ≡ take n (bytes-between bs p e)
-  no-sooner n h = let l = between-long in sym (take-all n (bytes-between bs p e) (omega arith))
+  no-sooner n h = let l = between-long in sym (take_all n (bytes-between bs p e) (omega arith))
 
   -- The place of the statement whose command was just taken.
   pub before-left : p - 1 ≡ e - suc (length (bytes-between bs p e))
@@ -52,44 +45,44 @@ module _ (bs : List ℕ) (p e : ℕ) (ordered : p ≤ e) (inside : e ≤ length 
     long-is = ap length is ∙ between-long
 
     -- What a pattern leaves of the bytes after n of them.
-    abbrev after-first : ℕ → List ℕ
-    after-first n = take (length l - n) (drop n l)
+    abbrev after_first : ℕ → List ℕ
+    after_first n = take (length l - n) (drop n l)
 
     -- What follows the first n bytes is no longer than the place of their end.
-    pub rest-short : (n : ℕ) → length (after-first n) ≤ e
+    pub rest-short : (n : ℕ) → length (after_first n) ≤ e
     rest-short n = let a = length-take (length l - n) (drop n l) in let b = length-drop n l in let c = long-is in omega arith
 
     -- The place moves on by as many bytes as were taken.
-    moved-by : (n : ℕ) → n ≤ length l → e - length (after-first n) ≡ p + n
-    moved-by n h = let a = length-take (length l - n) (drop n l) in let b = length-drop n l in let c = long-is in omega arith
+    moved_by : (n : ℕ) → n ≤ length l → e - length (after_first n) ≡ p + n
+    moved_by n h = let a = length-take (length l - n) (drop n l) in let b = length-drop n l in let c = long-is in omega arith
 
     -- It never goes back.
-    pub onward : (n : ℕ) → n ≤ length l → p ≤ e - length (after-first n)
-    onward n h = let m = moved-by n h in omega arith
+    pub onward : (n : ℕ) → n ≤ length l → p ≤ e - length (after_first n)
+    onward n h = let m = moved_by n h in omega arith
 
     -- From there on, the first n bytes are dropped.
-    pub moved : (n : ℕ) → n ≤ length l → bytes-between bs (e - length (after-first n)) e ≡ drop n l
-    moved n h = let m = moved-by n h in let c = long-is in later n (e - length (after-first n)) m (omega arith) ∙ ap (drop n) (sym is)
+    pub moved : (n : ℕ) → n ≤ length l → bytes-between bs (e - length (after_first n)) e ≡ drop n l
+    moved n h = let m = moved_by n h in let c = long-is in later n (e - length (after_first n)) m (omega arith) ∙ ap (drop n) (sym is)
 
-    pub byte-taken : (s : ℕ) (w : Bool) → w ≡ true → 1 ≤ length l → Ok (getD l 0 0, bytes-between bs (e - length (after-first 1)) e) ≡ byte-in s w (bytes-between bs p e)
-    byte-taken s w on h = (λ i. Ok (getD l 0 0, (moved 1 h ∙ sym (take-rest l 1)) i)) ∙ byte-front s w l on h ∙ ap (byte-in s w) is
+    pub byte-taken : (s : ℕ) (w : Bool) → w ≡ true → 1 ≤ length l → Ok (get_or l 0 0, bytes-between bs (e - length (after_first 1)) e) ≡ byte-in s w (bytes-between bs p e)
+    byte-taken s w on h = (λ i. Ok (get_or l 0 0, (moved 1 h ∙ sym (take_rest l 1)) i)) ∙ byte-front s w l on h ∙ ap (byte-in s w) is
 
-    pub length-taken : (s : ℕ) (w : Bool) → w ≡ true → 2 ≤ length l → Ok (getD l 0 0 + getD l 1 0 * 256, bytes-between bs (e - length (after-first 2)) e) ≡ length-in s w (bytes-between bs p e)
-    length-taken s w on h = (λ i. Ok (getD l 0 0 + getD l 1 0 * 256, (moved 2 h ∙ sym (take-rest l 2)) i)) ∙ length-front s w l on h ∙ ap (length-in s w) is
+    pub length_taken : (s : ℕ) (w : Bool) → w ≡ true → 2 ≤ length l → Ok (get_or l 0 0 + get_or l 1 0 * 256, bytes-between bs (e - length (after_first 2)) e) ≡ length-in s w (bytes-between bs p e)
+    length_taken s w on h = (λ i. Ok (get_or l 0 0 + get_or l 1 0 * 256, (moved 2 h ∙ sym (take_rest l 2)) i)) ∙ length_front s w l on h ∙ ap (length-in s w) is
 
-    pub part-taken : (s n : ℕ) → n ≤ length l → Ok (take (n - 0) l, bytes-between bs (e - length (after-first n)) e) ≡ part-in s n (bytes-between bs p e)
-    part-taken s n h = (λ i. Ok (take (n - 0) l, (moved n h ∙ sym (take-rest l n)) i)) ∙ part-front s n l h ∙ ap (part-in s n) is
+    pub part-taken : (s n : ℕ) → n ≤ length l → Ok (take (n - 0) l, bytes-between bs (e - length (after_first n)) e) ≡ part_in s n (bytes-between bs p e)
+    part-taken s n h = (λ i. Ok (take (n - 0) l, (moved n h ∙ sym (take_rest l n)) i)) ∙ part-front s n l h ∙ ap (part_in s n) is
 
-    pub code-taken : (s : ℕ) (w : Bool) (r : Result (List ℕ × List ℕ) ReadingFault) → w ≡ true → 1 ≤ length l → r ≡ part-in s (getD l 0 0) (bytes-between bs (e - length (after-first 1)) e) → r ≡ code-in s w (bytes-between bs p e)
-    code-taken s w r on h f = code-front s w l r on h (f ∙ ap (part-in s (getD l 0 0)) (moved 1 h ∙ sym (take-rest l 1))) ∙ ap (code-in s w) is
+    pub code-taken : (s : ℕ) (w : Bool) (r : Result (List ℕ × List ℕ) ReadingFault) → w ≡ true → 1 ≤ length l → r ≡ part_in s (get_or l 0 0) (bytes-between bs (e - length (after_first 1)) e) → r ≡ code_in s w (bytes-between bs p e)
+    code-taken s w r on h f = code-front s w l r on h (f ∙ ap (part_in s (get_or l 0 0)) (moved 1 h ∙ sym (take_rest l 1))) ∙ ap (code_in s w) is
 
     -- A command is the first byte, and the rest is left.
-    pub command-taken : 1 ≤ length l → bytes-between bs p e ≡ getD l 0 0 ∷ bytes-between bs (e - length (after-first 1)) e
-    command-taken h = sym is ∙ first-rest l h ∙ ap (λ r. getD l 0 0 ∷ r) (sym (moved 1 h))
+    pub command-taken : 1 ≤ length l → bytes-between bs p e ≡ get_or l 0 0 ∷ bytes-between bs (e - length (after_first 1)) e
+    command-taken h = sym is ∙ first_rest l h ∙ ap (λ r. get_or l 0 0 ∷ r) (sym (moved 1 h))
 
     -- At the end of the block nothing is left.
-    pub none-left : length l < 1 → bytes-between bs p e ≡ []
-    none-left h = sym is ∙ go l h where
+    pub none_left : length l < 1 → bytes-between bs p e ≡ []
+    none_left h = sym is ∙ go l h where
       go : (k : List ℕ) → length k < 1 → k ≡ []
       go [] h = refl
       go (x ∷ k) h = absurd (omega arith)

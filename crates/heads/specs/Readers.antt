@@ -1,12 +1,7 @@
 -- What a reader has left.
-use Prim.Native.Nat.{ℕ, suc, _-_, _≤_}
-use mathlib.Core.List.{List, [], _∷_}
-use mathlib.Core.Path.{_≡_}
-use denote.Ref.{RefT, now}
-use lib.ListN.{length, take, drop}
-use Rattle·std.specs.declared.option.Option.{Option}
-use Rattle·std.specs.declared.option.Option.the-variants.{Some, None}
-use Rattle·heads·specs.declared.reader.Reader.{Reader}
+use Rattle.std.specs.Prelude.{◌≡◌, ℕ, suc, ◌-◌, ◌≤◌, List, [], ◌∷◌, length, take, drop, Some, None, Option}
+use Rattle.std.specs.Borrow.{Bor}
+use Rattle.heads.specs.declared.reader.Reader.{Reader}
 
 -- The bytes from one place of a program to another.
 abbrev pub bytes-between : List ℕ → (place end : ℕ) → List ℕ
@@ -14,19 +9,19 @@ bytes-between bs p e = take (e - p) (drop p bs)
 
 -- The bytes from the reader's place to the end of its block.
 abbrev pub left-of : Reader → List ℕ
-left-of r = bytes-between (r .program .now) (r .place) (r .end)
+left-of r = bytes-between r.program.now r.place r.end
 
 -- The place of the statement whose command was just taken.
 abbrev pub statement-place : Reader → ℕ
-statement-place r = r .end - suc (length (left-of r))
+statement-place r = r.end - suc (length (left-of r))
 
 -- A number that was taken, with the bytes left after it.
 abbrev pub number-left : List ℕ → ℕ → ℕ × List ℕ
 number-left l n = (n, l)
 
 -- A part that was taken, with the bytes left after it.
-abbrev pub part-left : List ℕ → RefT (List ℕ) → List ℕ × List ℕ
-part-left l s = (s .now, l)
+abbrev pub part_left : List ℕ → Bor (List ℕ) → List ℕ × List ℕ
+part_left l s = (s.now, l)
 
 -- The first byte of what is left is taken, and the rest is left; at the end nothing is taken.
 abbrev pub Command-taken : (before after : List ℕ) → Option ℕ → Type 0
@@ -35,6 +30,6 @@ Command-taken before after (Some c) = before ≡ c ∷ after
 
 -- A reader of the same program, to the same end.
 pub record Same-block (before after : Reader) : Type 0 where
-  pub program : after .program .now ≡ before .program .now
-  pub end : after .end ≡ before .end
-  pub onward : before .place ≤ after .place
+  pub program : after.program.now ≡ before.program.now
+  pub end : after.end ≡ before.end
+  pub onward : before.place ≤ after.place

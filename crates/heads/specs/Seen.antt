@@ -1,16 +1,11 @@
 -- The head of a statement, as the code holds it.
-use Prim.Native.Nat.{ℕ, _+_, _-_, _<_, _≤_}
-use mathlib.Core.Bool.{true, false}
-use mathlib.Core.List.{List, []}
-use mathlib.Core.Path.{_≡_}
-use denote.Ref.{now}
-use lib.ListN.{length, take, drop}
-use Rattle·rules.specs.Forms.{has-expression, has-block, has-second-block, par-count}
-use Rattle·rules.specs.Reading.{code-place, Head as Headed}
-use Rattle·rules.specs.declared.program.Form.{Form}
-use Rattle·heads·specs.Pieces.{first-block, second-block, after-blocks}
-use Rattle·heads·specs.declared.counts.Counts.{Counts}
-use Rattle·heads·specs.declared.heads.Head.{Head}
+use Rattle.std.specs.Prelude.{◌≡◌, ℕ, ◌+◌, ◌-◌, ◌<◌, ◌≤◌, true, false, List, [], length, take, drop}
+use Rattle.rules.specs.Forms.{has-expression, has_block, has-second-block, par-count}
+use Rattle.rules.specs.Reading.{code-place, Head as Headed}
+use Rattle.rules.specs.declared.program.Form.{Form}
+use Rattle.heads.specs.Pieces.{first_block, second_block, after-blocks}
+use Rattle.heads.specs.declared.counts.Counts.{Counts}
+use Rattle.heads.specs.declared.heads.Head.{Head}
 
 -- What a head shows: all but the commands of its expression.
 pub record Seen : Type 0 where
@@ -25,26 +20,26 @@ pub record Seen : Type 0 where
 -- The head that the code points to, with the bytes left after it.
 abbrev pub seen : List ℕ → Head → Seen
 seen l h = record {
-  form = h .form;
-  byte = h .byte;
-  code = h .code .now;
-  code-from = h .«code_place»;
-  first = first-block (h .«first_length») l;
-  second = second-block (h .«first_length») (h .«second_length») l;
-  after = after-blocks (h .«first_length») (h .«second_length») l;
+  form = h.form;
+  byte = h.byte;
+  code = h.code.now;
+  code-from = h.code_place;
+  first = first_block h.first_length l;
+  second = second_block h.first_length h.second_length l;
+  after = after-blocks h.first_length h.second_length l;
 }
 
 -- The head of the rules, of a statement at place p.
 abbrev pub seen-head : (p : ℕ) → Headed → Seen
-seen-head p h = record { form = h .form; byte = h .parts .byte; code = h .parts .code; code-from = code-place (h .form) p; first = h .parts .first; second = h .parts .second; after = h .parts .after }
+seen-head p h = record { form = h.form; byte = h.parts.byte; code = h.parts.code; code-from = code-place h.form p; first = h.parts.first; second = h.parts.second; after = h.parts.after }
 
 -- What an accepted head says of the limits and of its parts, in the bytes `rest` that follow its command, with the bytes `left` after the head.
 pub record Fine (rest left : List ℕ) (a : Counts) (h : Head) : Type 0 where
-  pub short : h .«first_length» + h .«second_length» ≤ length left
-  pub few : a .statements < 512
-  pub few-pars : a .pars + par-count (h .form) ≤ 15
-  pub no-first : has-block (h .form) ≡ false → h .«first_length» ≡ 0
-  pub no-second : has-second-block (h .form) ≡ false → h .«second_length» ≡ 0
-  pub code-near : h .«code_place» ≤ 4099
-  pub code-few : length (h .code .now) ≤ 255
-  pub code-part : has-expression (h .form) ≡ true → h .code .now ≡ take (length (h .code .now)) (drop (code-place (h .form) 0 - 1) rest)
+  pub short : h.first_length + h.second_length ≤ length left
+  pub few : a.statements < 512
+  pub few-pars : a.pars + par-count h.form ≤ 15
+  pub no-first : has_block h.form ≡ false → h.first_length ≡ 0
+  pub no_second : has-second-block h.form ≡ false → h.second_length ≡ 0
+  pub code-near : h.code_place ≤ 4099
+  pub code-few : length h.code.now ≤ 255
+  pub code-part : has-expression h.form ≡ true → h.code.now ≡ take (length h.code.now) (drop (code-place h.form 0 - 1) rest)

@@ -1,23 +1,19 @@
 -- The head of a statement, with statement and thread on its fault.
-use Prim.Native.Nat.{ℕ, suc, _-_}
-use mathlib.Core.List.{List}
-use lib.ListN.{length}
-use Rattle·std.specs.declared.result.Result.{Result}
-use Rattle·std.specs.declared.result.Result.the-variants.{Ok, Err}
-use Rattle·rules.specs.Outcomes.{refused-as}
-use Rattle·rules.specs.Reading.{Counts, Head as Headed, read-head}
-use Rattle·rules.specs.Variables.{Variable}
-use Rattle·rules.specs.declared.faults.LoadFault.{LoadFault}
-use Rattle·rules.specs.declared.faults.LoadFault.the-variants.{Statement}
-use Rattle·heads·specs.Seen.{Seen, seen}
-use Rattle·heads·specs.declared.faults.SitedFault.{SitedFault}
-use Rattle·heads·specs.declared.heads.Head.{Head}
+use Rattle.std.specs.Prelude.{ℕ, suc, ◌-◌, List, length, Ok, Err, Result}
+use Rattle.rules.specs.Outcomes.{refused_as}
+use Rattle.rules.specs.Reading.{Counts, Head as Headed, read_head}
+use Rattle.rules.specs.Variables.{Variable}
+use Rattle.rules.specs.declared.faults.LoadFault.{LoadFault}
+use Rattle.rules.specs.declared.faults.LoadFault.TheVariants.{Statement}
+use Rattle.heads.specs.Seen.{Seen, seen}
+use Rattle.heads.specs.declared.faults.SitedFault.{SitedFault}
+use Rattle.heads.specs.declared.heads.Head.{Head}
 
 -- A head with the bytes left after it, or the fault of the program that a sited fault is.
 abbrev pub told-head : List ℕ → Result Head SitedFault → Result Seen LoadFault
 told-head l (Ok h) = Ok (seen l h)
-told-head l (Err f) = Err (Statement (f .fault) (f .site))
+told-head l (Err f) = Err (Statement f.fault f.site)
 
 -- The head of a statement in a block that ends at `end`, as reading a statement begins.
-abbrev pub head-at : List Variable → (n t : ℕ) → Counts → (end c : ℕ) → List ℕ → Result Headed LoadFault
-head-at ds n t a e c bs = refused-as (λ f. Statement f (record { statement = a .statements; thread = t })) (read-head ds n t a (e - suc (length bs)) c bs)
+abbrev pub head_at : List Variable → (n t : ℕ) → Counts → (end c : ℕ) → List ℕ → Result Headed LoadFault
+head_at ds n t a e c bs = refused_as (λ f. Statement f (record { statement = a.statements; thread = t })) (read_head ds n t a (e - suc (length bs)) c bs)

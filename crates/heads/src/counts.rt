@@ -1,9 +1,9 @@
 //! What is counted while statements are read, and its limits.
-ghost use mathlib.Core.Path.{_≡_};
-ghost use Rattle·rules.specs.Reading.{within-limits};
-ghost use Rattle·heads·specs.Counting.{counted};
-use crate::forms::has_block;
-use crate::forms::par_count;
+ghost use Rattle.std.specs.Prelude.{◌≡◌};
+ghost use Rattle.rules.specs.Reading.{within-limits};
+ghost use Rattle.heads.specs.Counting.{counted};
+
+use crate::forms::{has_block, par_count};
 use rules::program::Form;
 
 /// The most statements of a program.
@@ -25,7 +25,7 @@ pub struct Counts {
 
 /// Whether there is room for the statement, for its pars and for its blocks, where so many more nested blocks are allowed.
 pub fn within_limits(nesting: usize, form: Form, counts: Counts) -> bool
-    ensures { λ r. ⌜ r ≡ within-limits nesting form (counted counts) ⌝ }
+    ensures { result ≡ within-limits nesting form (counted counts) }
 {
     counts.statements < MOST_STATEMENTS
         && counts.pars <= MOST_PARS - par_count(form)

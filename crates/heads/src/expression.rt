@@ -1,18 +1,15 @@
 //! Checks an expression: postfix commands over at most 16 stacked values.
-ghost use mathlib.Core.Path.{_≡_};
-ghost use Prim.Native.Nat.{_+_, _^_, _<_, _≤_};
-ghost use lib.ListN.{length};
-ghost use Rattle·std.specs.Vec.{made};
-ghost use Rattle·evaluator.specs.Commands.{next-command};
-ghost use Rattle·evaluator.specs.Outcomes.{mapped};
-ghost use Rattle·rules.specs.Reading.{read-expression};
-ghost use Rattle·declarations.specs.Declaring.{variables-of};
-ghost use Rattle·heads·specs.Pieces.{number-rest};
-ghost use Rattle·heads·specs.Steps.{one-command, unit};
+ghost use Rattle.std.specs.Prelude.{◌≡◌, ◌+◌, ◌^◌, ◌<◌, ◌≤◌, length, IfOk};
+ghost use Rattle.evaluator.specs.Commands.{next-command};
+ghost use Rattle.evaluator.specs.Outcomes.{mapped};
+ghost use Rattle.rules.specs.Reading.{read-expression};
+ghost use Rattle.declarations.specs.Declaring.{variables-of};
+ghost use Rattle.heads.specs.Pieces.{number-rest};
+ghost use Rattle.heads.specs.Steps.{one-command, unit};
+
 use declarations::declaration::Declaration;
 use declarations::scopes::may_read;
-use evaluator::evaluation::DEEPEST;
-use evaluator::evaluation::LONGEST;
+use evaluator::evaluation::{DEEPEST, LONGEST};
 use rules::faults::StatementFault;
 
 // The first command of the bytes left, with `depth` values stacked: how many are then, and what follows it.
@@ -23,9 +20,9 @@ fn step<'a>(
     thread: usize,
     declarations: &[Declaration],
 ) -> Result<(usize, &'a [u8]), StatementFault>
-    requires { ⌜ depth ≤ 16 ⌝ }
-    ensures answer { λ r. ⌜ mapped number-rest r ≡ one-command (variables-of (now (declarations .entry))) thread place depth (next-command (now (left .entry))) ⌝ }
-    ensures shorter { λ r. ⌜ made r (λ p. (length (p .1 .now) < length (now (left .entry))) × (p .0 ≤ 16)) ⌝ }
+    requires { depth ≤ 16 }
+    ensures answer { mapped number-rest result ≡ one-command (variables-of declarations.now) thread place depth (next-command left.now) }
+    ensures shorter { IfOk result (λ p. (length p.1.now < length left.now) × (p.0 ≤ 16)) }
 {
     let [command, rest @ ..] = left else {
         return Err(StatementFault::BadExpression(place));
@@ -52,8 +49,8 @@ pub(crate) fn check_expression(
     thread: usize,
     declarations: &[Declaration],
 ) -> Result<(), StatementFault>
-    requires { ⌜ from + length (now code) < 2 ^ 64 ⌝ }
-    ensures { λ r. ⌜ r ≡ mapped unit (read-expression (variables-of (now (declarations .entry))) thread from statement (now (code .entry))) ⌝ }
+    requires { from + length code.now < 2 ^ 64 }
+    ensures { result ≡ mapped unit (read-expression (variables-of declarations.now) thread from statement code.now) }
 {
     if code.is_empty() || code.len() > LONGEST {
         return Err(StatementFault::BadExpression(statement));

@@ -1,35 +1,25 @@
 //! The head of a statement: all of it but its blocks.
-ghost use mathlib.Core.Path.{_≡_};
-ghost use Prim.Native.Nat.{_+_, _^_, _<_, _≤_};
-ghost use lib.ListN.{length};
-ghost use Rattle·std.specs.Vec.{made};
-ghost use Rattle·evaluator.specs.Outcomes.{mapped};
-ghost use Rattle·rules.specs.Forms.{has-expression};
-ghost use Rattle·rules.specs.Reading.{code-place, set-right, expression-of, read-head as head-read};
-ghost use Rattle·declarations.specs.Declaring.{variables-of};
-ghost use Rattle·heads·specs.Counting.{counted};
-ghost use Rattle·heads·specs.Readers.{left-of, statement-place, Same-block};
-ghost use Rattle·heads·specs.Seen.{seen, seen-head, Fine};
-ghost use Rattle·heads·specs.Sites.{told-head, head-at};
-ghost use Rattle·heads·specs.Steps.{unit};
-use crate::counts::Counts;
-use crate::counts::within_limits;
+ghost use Rattle.std.specs.Prelude.{◌≡◌, ◌+◌, ◌^◌, ◌<◌, ◌≤◌, length, IfOk};
+ghost use Rattle.evaluator.specs.Outcomes.{mapped};
+ghost use Rattle.rules.specs.Forms.{has-expression};
+ghost use Rattle.rules.specs.Reading.{code-place, set-right, expression-of, read_head as head_read};
+ghost use Rattle.declarations.specs.Declaring.{variables-of};
+ghost use Rattle.heads.specs.Counting.{counted};
+ghost use Rattle.heads.specs.Readers.{left-of, statement-place, Same-block};
+ghost use Rattle.heads.specs.Seen.{seen, seen-head, Fine};
+ghost use Rattle.heads.specs.Sites.{told-head, head_at};
+ghost use Rattle.heads.specs.Steps.{unit};
+
+use crate::counts::{Counts, within_limits};
 use crate::expression::check_expression;
 use crate::faults::SitedFault;
-use crate::forms::flags_known;
-use crate::forms::form_of;
-use crate::forms::has_byte;
-use crate::forms::has_expression;
-use crate::parts::Parts;
-use crate::parts::take_parts;
+use crate::forms::{flags_known, form_of, has_byte, has_expression};
+use crate::parts::{Parts, take_parts};
 use crate::reader::Reader;
 use crate::scope::Scope;
 use declarations::declaration::Declaration;
 use declarations::scopes::may_set;
-use rules::faults::ReadingFault;
-use rules::faults::Site;
-use rules::faults::StatementFault;
-use rules::faults::StatementFromReading;
+use rules::faults::{ReadingFault, Site, StatementFault};
 use rules::program::Form;
 
 /// A statement's parts, its checks done; `code` is its expression, which begins at `code_place`. Its blocks come next, the first before the second.
@@ -45,7 +35,7 @@ pub struct Head<'a> {
 
 // Whether a set names a variable that its thread sets.
 fn set_right(declarations: &[Declaration], thread: usize, form: Form, byte: u8) -> bool
-    ensures { λ r. ⌜ r ≡ set-right (variables-of (now (declarations .entry))) thread form byte ⌝ }
+    ensures { result ≡ set-right (variables-of declarations.now) thread form byte }
 {
     match form {
         Form::Set => may_set(declarations, thread, byte),
@@ -55,8 +45,8 @@ fn set_right(declarations: &[Declaration], thread: usize, form: Form, byte: u8) 
 
 // Where the expression of a statement begins.
 fn code_begin(form: Form, place: usize) -> usize
-    requires { ⌜ place ≤ 4096 ⌝ }
-    ensures { λ r. ⌜ r ≡ code-place form place ⌝ ∗ ⌜ r ≤ place + 3 ⌝ }
+    requires { place ≤ 4096 }
+    ensures { (result ≡ code-place form place) × (result ≤ place + 3) }
 {
     if has_byte(form) {
         place + 2 + 1
@@ -74,8 +64,8 @@ fn check_code(
     thread: usize,
     declarations: &[Declaration],
 ) -> Result<(), StatementFault>
-    requires { ⌜ from + length (now code) < 2 ^ 64 ⌝ }
-    ensures { λ r. ⌜ r ≡ mapped unit (expression-of (variables-of (now (declarations .entry))) thread from statement (has-expression form) (now (code .entry))) ⌝ }
+    requires { from + length code.now < 2 ^ 64 }
+    ensures { result ≡ mapped unit (expression-of (variables-of declarations.now) thread from statement (has-expression form) code.now) }
 {
     if has_expression(form) {
         check_expression(code, from, statement, thread, declarations)
@@ -92,9 +82,9 @@ fn checked_head<'a>(
     counts: Counts,
     declarations: &[Declaration],
 ) -> Result<Head<'a>, StatementFault>
-    ensures answer { λ r. ⌜ mapped (seen (left-of (now (reader .exit)))) r ≡ mapped (seen-head (statement-place (now (reader .entry)))) (head-read (variables-of (now (declarations .entry))) (scope .nesting) (scope .thread) (counted counts) (statement-place (now (reader .entry))) command (left-of (now (reader .entry)))) ⌝ }
-    ensures fine { λ r. ⌜ made r (λ h. Fine (left-of (now (reader .entry))) (left-of (now (reader .exit))) counts h) ⌝ }
-    ensures block { λ _. ⌜ Same-block (now (reader .entry)) (now (reader .exit)) ⌝ }
+    ensures answer { mapped (seen (left-of reader.new)) result ≡ mapped (seen-head (statement-place reader.old)) (head_read (variables-of declarations.now) scope.nesting scope.thread (counted counts) (statement-place reader.old) command (left-of reader.old)) }
+    ensures fine { IfOk result (λ h. Fine (left-of reader.old) (left-of reader.new) counts h) }
+    ensures block { Same-block reader.old reader.new }
 {
     let statement = reader.statement();
     let Some(form) = form_of(command) else {
@@ -143,9 +133,9 @@ pub fn read_head<'a>(
     counts: Counts,
     declarations: &[Declaration],
 ) -> Result<Head<'a>, SitedFault>
-    ensures answer { λ r. ⌜ told-head (left-of (now (reader .exit))) r ≡ mapped (seen-head (statement-place (now (reader .entry)))) (head-at (variables-of (now (declarations .entry))) (scope .nesting) (scope .thread) (counted counts) (now (reader .entry) .end) command (left-of (now (reader .entry)))) ⌝ }
-    ensures fine { λ r. ⌜ made r (λ h. Fine (left-of (now (reader .entry))) (left-of (now (reader .exit))) counts h) ⌝ }
-    ensures block { λ _. ⌜ Same-block (now (reader .entry)) (now (reader .exit)) ⌝ }
+    ensures answer { told-head (left-of reader.new) result ≡ mapped (seen-head (statement-place reader.old)) (head_at (variables-of declarations.now) scope.nesting scope.thread (counted counts) reader.old.end command (left-of reader.old)) }
+    ensures fine { IfOk result (λ h. Fine (left-of reader.old) (left-of reader.new) counts h) }
+    ensures block { Same-block reader.old reader.new }
 {
     let site = Site {
         statement: counts.statements,

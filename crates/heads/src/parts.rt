@@ -1,16 +1,11 @@
 //! The parts of a statement's bytes: its byte, its expression, and how long its blocks are.
-ghost use mathlib.Core.Path.{_≡_};
-ghost use Prim.Native.Nat.{_+_, _≤_};
-ghost use lib.ListN.{length};
-ghost use Rattle·std.specs.Vec.{made};
-ghost use Rattle·evaluator.specs.Outcomes.{mapped};
-ghost use Rattle·rules.specs.Reading.{parts-in};
-ghost use Rattle·heads·specs.Pieces.{pieces};
-ghost use Rattle·heads·specs.Readers.{left-of, Same-block};
-use crate::forms::has_block;
-use crate::forms::has_byte;
-use crate::forms::has_expression;
-use crate::forms::has_second_block;
+ghost use Rattle.std.specs.Prelude.{◌≡◌, ◌+◌, ◌≤◌, length, IfOk};
+ghost use Rattle.evaluator.specs.Outcomes.{mapped};
+ghost use Rattle.rules.specs.Reading.{parts_in};
+ghost use Rattle.heads.specs.Pieces.{pieces};
+ghost use Rattle.heads.specs.Readers.{left-of, Same-block};
+
+use crate::forms::{has_block, has_byte, has_expression, has_second_block};
 use crate::reader::Reader;
 use rules::faults::ReadingFault;
 use rules::program::Form;
@@ -30,9 +25,9 @@ pub fn take_parts<'a>(
     form: Form,
     statement: usize,
 ) -> Result<Parts<'a>, ReadingFault>
-    ensures answer { λ r. ⌜ mapped (pieces (left-of (now (reader .exit)))) r ≡ parts-in statement form (left-of (now (reader .entry))) ⌝ }
-    ensures fits { λ r. ⌜ made r (λ p. p .«first_length» + p .«second_length» ≤ length (left-of (now (reader .exit)))) ⌝ }
-    ensures block { λ _. ⌜ Same-block (now (reader .entry)) (now (reader .exit)) ⌝ }
+    ensures answer { mapped (pieces (left-of reader.new)) result ≡ parts_in statement form (left-of reader.old) }
+    ensures fits { IfOk result (λ p. p.first_length + p.second_length ≤ length (left-of reader.new)) }
+    ensures block { Same-block reader.old reader.new }
 {
     let byte = reader.byte(has_byte(form), statement)?;
     let code = reader.code(has_expression(form), statement)?;

@@ -1,7 +1,5 @@
 //! A reader of a program's bytes.
-ghost use Prim.Native.Nat.{_≤_};
-ghost use denote.Ref.{now};
-ghost use lib.ListN.{length};
+ghost use Rattle.std.specs.Prelude.{◌≤◌, length};
 
 pub mod taking;
 
@@ -15,6 +13,6 @@ pub struct Reader<'a> {
     place: usize,
     end: usize,
     ghost within: { place ≤ end },
-    ghost inside: { end ≤ length (now program) },
+    ghost inside: { end ≤ length program.now },
     ghost short: { end ≤ 4096 },
 }

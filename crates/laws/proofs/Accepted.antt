@@ -1,34 +1,26 @@
 -- What an accepted program's text keeps: its loops are numbered in order, its pausing loops pause, its tick length is the program's.
-use Prim.Native.Nat.{ℕ, zero, suc, _+_, _*_, _≤_, max}
-use mathlib.Core.Bool.{Bool, true, false, _&&_, _||_, not}
-use mathlib.Core.List.{List, [], _∷_}
-use mathlib.Core.Path.{_≡_, refl, sym, ap, ap₂, subst, _∙_}
-use native.Mathlib.Omega.{arith}
-use lib.Dec.{T, eqb, leb}
-use lib.ListN.{length}
-use Rattle·std.specs.declared.result.Result.{Result}
-use Rattle·std.specs.declared.result.Result.the-variants.{Ok, Err}
-use Rattle·rules.specs.Encoding.{statement-bytes, block-bytes}
-use Rattle·rules.specs.Lengths.{length-of, block-length, loop-length, pauses, must-pause, longest-tick, tick-length}
-use Rattle·rules.specs.Numbering.{Mark, Step, Text, number-statement, number-block, text-of}
-use Rattle·rules.specs.Outcomes.{_>>=_, ensure}
-use Rattle·rules.specs.Reading.{head-size, idle, statement-pauses, loops-pause, read, read-all, read-declarations, read-block, owners-live, start, most-nested, most-bytes}
-use Rattle·rules.specs.Text.{Stmt, nothing, assign, pause, branch, loop, par, abort, Block, end, _then_, Program, count-of, count, arms, arms-of}
-use Rattle·rules.specs.declared.faults.LoadFault.{LoadFault}
-use Rattle·rules.specs.Variables.{Variable}
-use Rattle·laws·proofs.Bound.{Pausing, Sound, Sound-s}
+use Rattle.std.proofs.Common.{◌≡◌, ℕ, zero, suc, ◌+◌, ◌*◌, ◌≤◌, max, Bool, true, false, not, ◌&&◌, ◌||◌, T, eqb, leb, List, [], ◌∷◌, length, Ok, Err, Result, sym, refl, ap, ◌∙◌, subst, ap₂, arith}
+use Rattle.rules.specs.Encoding.{statement-bytes, block-bytes}
+use Rattle.rules.specs.Lengths.{length-of, block-length, loop-length, pauses, must-pause, longest-tick, tick-length}
+use Rattle.rules.specs.Numbering.{Mark, Step, Text, number-statement, number-block, text_of}
+use Rattle.rules.specs.Outcomes.{◌>>=◌, ensure}
+use Rattle.rules.specs.Reading.{head-size, idle, statement-pauses, loops-pause, read, read_all, read-declarations, read-block, owners-live, start, most-nested, most_bytes}
+use Rattle.rules.specs.Text.{Stmt, nothing, assign, pause, branch, loop, par, abort, Block, end, ◌then◌, Program, count_of, count, arms, arms_of}
+use Rattle.rules.specs.declared.faults.LoadFault.{LoadFault}
+use Rattle.rules.specs.Variables.{Variable}
+use Rattle.laws.proofs.Bound.{Pausing, Sound, Sound-s}
 
 -- A step that was gone on with had a result.
-pub bind-ok : {A B E : Type 0} (r : Result A E) (f : A → Result B E) (b : B) → (r >>= f) ≡ Ok b → (a : A) × (r ≡ Ok a) × (f a ≡ Ok b)
-bind-ok (Ok a) f b e = (a, refl, e)
-bind-ok (Err x) f b e = absurd (let z : _≡_ {A = ℕ} 0 1 = cc in omega arith)
+pub bind_ok : {A B E : Type 0} (r : Result A E) (f : A → Result B E) (b : B) → (r >>= f) ≡ Ok b → (a : A) × (r ≡ Ok a) × (f a ≡ Ok b)
+bind_ok (Ok a) f b e = (a, refl, e)
+bind_ok (Err x) f b e = absurd (let z : ◌≡◌ {A = ℕ} 0 1 = cc in omega arith)
 
 pub ensured : {E : Type 0} (t : Bool) (x : E) (u : Unit {0}) → ensure t x ≡ Ok u → t ≡ true
 ensured true x u e = refl
-ensured false x u e = absurd (let z : _≡_ {A = ℕ} 0 1 = cc in omega arith)
+ensured false x u e = absurd (let z : ◌≡◌ {A = ℕ} 0 1 = cc in omega arith)
 
-pub ok-same : {A E : Type 0} (a b : A) → _≡_ {A = Result A E} (Ok a) (Ok b) → a ≡ b
-ok-same a b e = cc
+pub ok_same : {A E : Type 0} (a b : A) → ◌≡◌ {A = Result A E} (Ok a) (Ok b) → a ≡ b
+ok_same a b e = cc
 
 -- Numbering keeps which blocks must pause.
 mutual
@@ -65,7 +57,7 @@ pausing : (bound n p t u : ℕ) (X : Block (Unit {0})) → not (idle bound X) �
 pausing zero n p t u X h = go (must-pause X) (must-pause-numbered X n p t u) h where
   go : (b : Bool) → must-pause (number-block n p t u X) ≡ b → not (true && not b) ≡ true → T (must-pause (number-block n p t u X))
   go true e h = subst T (sym e) tt
-  go false e h = absurd (let z : _≡_ {A = ℕ} 0 1 = cc in omega arith)
+  go false e h = absurd (let z : ◌≡◌ {A = ℕ} 0 1 = cc in omega arith)
 pausing (suc bound) n p t u X h = tt
 
 -- Where no pausing loop was found that may not pause, the numbered text is sound.
@@ -75,38 +67,38 @@ mutual
   sound-statement (assign a v f) n p q t u x o h e = tt
   sound-statement (pause a) n p q t u x o h e = tt
   sound-statement (branch a f X Y) n p q t u x o h e =
-      let i = bind-ok (loops-pause (p + head-size (branch a f X Y) (length (block-bytes X) + length (block-bytes Y))) (n + 1) t u X) _ o e in
-      (sound-block X _ _ _ _ _ x (i .0) (omega arith) (i .1), sound-block Y _ _ _ _ _ x o (omega arith) (i .2))
+      let i = bind_ok (loops-pause (p + head-size (branch a f X Y) (length (block-bytes X) + length (block-bytes Y))) (n + 1) t u X) _ o e in
+      (sound-block X _ _ _ _ _ x i.0 (omega arith) i.1, sound-block Y _ _ _ _ _ x o (omega arith) i.2)
   sound-statement (loop a bound f X) n p q t u x o h e =
-      let i = bind-ok (ensure (not (idle bound X)) _) _ o e in
-      (h, sound-block X _ _ _ _ _ (suc n) o (omega arith) (i .2), pausing bound _ _ _ _ X (ensured (not (idle bound X)) _ (i .0) (i .1)))
+      let i = bind_ok (ensure (not (idle bound X)) _) _ o e in
+      (h, sound-block X _ _ _ _ _ (suc n) o (omega arith) i.2, pausing bound _ _ _ _ X (ensured (not (idle bound X)) _ i.0 i.1))
   sound-statement (par a X Y) n p q t u x o h e =
-      let i = bind-ok (loops-pause (p + head-size (par a X Y) (length (block-bytes X) + length (block-bytes Y))) (n + 1) u (u + 1) X) _ o e in
-      (sound-block X _ _ _ _ _ 0 (i .0) (omega arith) (i .1), sound-block Y _ _ _ _ _ 0 o (omega arith) (i .2))
+      let i = bind_ok (loops-pause (p + head-size (par a X Y) (length (block-bytes X) + length (block-bytes Y))) (n + 1) u (u + 1) X) _ o e in
+      (sound-block X _ _ _ _ _ 0 i.0 (omega arith) i.1, sound-block Y _ _ _ _ _ 0 o (omega arith) i.2)
   sound-statement (abort a w j f X) n p q t u x o h e = sound-block X _ _ _ _ _ x o (omega arith) e
 
   pub sound-block : (B : Block (Unit {0})) (n p q t u x : ℕ) (o : Unit {0}) → x ≤ n → loops-pause p n t u B ≡ Ok o → Sound (number-block n q t u B) x
   sound-block end n p q t u x o h e = tt
   sound-block (s then B) n p q t u x o h e =
-      let i = bind-ok (statement-pauses p n t u s) _ o e in
-      (sound-statement s n p q t u x (i .0) h (i .1), sound-block B _ _ _ _ _ x o (omega arith) (i .2))
+      let i = bind_ok (statement-pauses p n t u s) _ o e in
+      (sound-statement s n p q t u x i.0 h i.1, sound-block B _ _ _ _ _ x o (omega arith) i.2)
 
 -- The text of a program that was read: sound, and as long as the program.
-pub accepted-sound : (bs : List ℕ) (p : Program) → read bs ≡ Ok p → Sound (text-of p) 0
+pub accepted-sound : (bs : List ℕ) (p : Program) → read bs ≡ Ok p → Sound (text_of p) 0
 accepted-sound bs p e =
-    let a = bind-ok (ensure (leb 1 (length bs) && leb (length bs) most-bytes) _) _ p e in
-    go bs (length bs) (a .2) where
-      go : (bs : List ℕ) (l : ℕ) → read-all l bs ≡ Ok p → Sound (text-of p) 0
-      go [] l e = absurd (let z : _≡_ {A = ℕ} 0 1 = cc in omega arith)
+    let a = bind_ok (ensure (leb 1 (length bs) && leb (length bs) most_bytes) _) _ p e in
+    go bs (length bs) a.2 where
+      go : (bs : List ℕ) (l : ℕ) → read_all l bs ≡ Ok p → Sound (text_of p) 0
+      go [] l e = absurd (let z : ◌≡◌ {A = ℕ} 0 1 = cc in omega arith)
       go (n ∷ bs) l e =
-          let a = bind-ok (ensure (leb n 32) _) _ p e in
-          let b = bind-ok (read-declarations n l bs) _ p (a .2) in
-          let c = bind-ok (read-block (b .0 .0) most-nested 0 start l (b .0 .1)) _ p (b .2) in
-          let d = bind-ok (owners-live (1 + arms (c .0)) 1 (b .0 .0)) _ p (c .2) in
-          let f = bind-ok (loops-pause (1 + 16 * n) 0 0 1 (c .0)) _ p (d .2) in
-          let g = bind-ok (ensure (leb (block-length (c .0) + 1) longest-tick) _) _ p (f .2) in
-          let same : record { variables = b .0 .0; main = c .0 } ≡ p = ok-same _ p (g .2) in
-          subst (λ (q : Program). Sound (text-of q) 0) same (sound-block (c .0) 0 (1 + 16 * n) (1 + 16 * length (b .0 .0)) 0 1 0 (f .0) (omega arith) (f .1))
+          let a = bind_ok (ensure (leb n 32) _) _ p e in
+          let b = bind_ok (read-declarations n l bs) _ p a.2 in
+          let c = bind_ok (read-block b.0.0 most-nested 0 start l b.0.1) _ p b.2 in
+          let d = bind_ok (owners-live (1 + arms c.0) 1 b.0.0) _ p c.2 in
+          let f = bind_ok (loops-pause (1 + 16 * n) 0 0 1 c.0) _ p d.2 in
+          let g = bind_ok (ensure (leb (block-length c.0 + 1) longest-tick) _) _ p f.2 in
+          let same : record { variables = b.0.0; main = c.0 } ≡ p = ok_same _ p g.2 in
+          subst (λ (q : Program). Sound (text_of q) 0) same (sound-block c.0 0 (1 + 16 * n) (1 + 16 * length b.0.0) 0 1 0 f.0 (omega arith) f.1)
 
-pub text-length : (p : Program) → block-length (text-of p) + 1 ≡ tick-length p
-text-length p = ap (λ x. x + 1) (block-length-numbered (p .main) 0 (1 + 16 * length (p .variables)) 0 1)
+pub text-length : (p : Program) → block-length (text_of p) + 1 ≡ tick-length p
+text-length p = ap (λ x. x + 1) (block-length-numbered p.main 0 (1 + 16 * length p.variables) 0 1)

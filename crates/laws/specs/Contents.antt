@@ -1,12 +1,9 @@
 -- What the value memory held before a load.
-use Prim.Native.Nat.{ℕ}
-use mathlib.Core.List.{List, [], _∷_}
-use mathlib.Core.Path.{_≡_}
-use lib.ListN.{length}
-use Rattle·arithmetic.specs.Meaning.{Meaning}
-use Rattle·rules.specs.Calls.{Call, Machine, empty, running, perform}
-use Rattle·rules.specs.Runs.{after-calls}
-use Rattle·rules.specs.declared.answers.Answer.{Answer}
+use Rattle.std.specs.Prelude.{◌≡◌, ℕ, List, [], ◌∷◌, length}
+use Rattle.arithmetic.specs.Meaning.{Meaning}
+use Rattle.rules.specs.Calls.{Call, Machine, empty, running, perform}
+use Rattle.rules.specs.Runs.{after-calls}
+use Rattle.rules.specs.declared.answers.Answer.{Answer}
 
 module _ {V : Type 0} where
   -- The same machine over another value memory.
@@ -17,9 +14,9 @@ module _ {V : Type 0} where
   -- What each call of a list is answered.
   abbrev pub answers : Meaning V → List Call → Machine V → List Answer
   answers M [] m = []
-  answers M (c ∷ cs) m = perform M c m .0 ∷ answers M cs (perform M c m .1)
+  answers M (c ∷ cs) m = (perform M c m).0 ∷ answers M cs (perform M c m).1
 
 -- Over two value memories of one length, whatever they hold: every answer is the same, and so are program, stores, threads and count.
 abbrev pub Contents-leave-no-trace : Type 0 → Type 0
 Contents-leave-no-trace V = (M : Meaning V) (u w : List V) (cs : List Call) → length u ≡ length w →
-    (answers M cs (empty w) ≡ answers M cs (empty u)) × (after-calls M w cs .0 ≡ over-memory w (after-calls M u cs .0)) × (after-calls M w cs .1 ≡ after-calls M u cs .1)
+    (answers M cs (empty w) ≡ answers M cs (empty u)) × ((after-calls M w cs).0 ≡ over-memory w (after-calls M u cs).0) × ((after-calls M w cs).1 ≡ (after-calls M u cs).1)

@@ -1,14 +1,8 @@
 -- Runs of steps in any order.
-use Prim.Native.Nat.{ℕ}
-use mathlib.Core.Bool.{Bool}
-use mathlib.Core.List.{List, [], _∷_}
-use mathlib.Core.Logic.{_≢_}
-use mathlib.Core.Path.{_≡_}
-use lib.Dec.{T}
-use lib.ListN.{length}
-use Rattle·arithmetic.specs.Meaning.{Meaning}
-use Rattle·rules.specs.Stepping.{ready?, step}
-use Rattle·rules.specs.Variables.{Variable}
+use Rattle.std.specs.Prelude.{◌≡◌, ℕ, Bool, T, ◌≢◌, List, [], ◌∷◌, length}
+use Rattle.arithmetic.specs.Meaning.{Meaning}
+use Rattle.rules.specs.Stepping.{ready?, step}
+use Rattle.rules.specs.Variables.{Variable}
 
 module _ {S : Type 0} (ready : ℕ → S → Bool) (step : ℕ → S → S) where
   -- The threads of the list can step one after the other.

@@ -1,13 +1,11 @@
 //! One line of a job: a command with its words.
-ghost use mathlib.Core.Path.{_≡_};
-ghost use Prim.Native.Nat.{_≤_};
-ghost use lib.ListN.{length};
-ghost use Rattle·std.specs.Of.Vec.{vec-items};
-ghost use Rattle·evaluator.specs.Outcomes.{mapped};
-ghost use Rattle·words.specs.Decimal.{numbers-from};
-ghost use Rattle·lines·specs.Lines.{said, evaluation-said, limits-shown, limits-in, readings-in, evaluation-in, choice-named, choice-in, only-word, command-line, line-of, Reads-as};
-ghost use Rattle·words.specs.Outcomes.{Gives};
-ghost use Rattle·words.specs.Splitting.{texts};
+ghost use Rattle.std.specs.Prelude.{◌≡◌, ◌≤◌, length, vec_items};
+ghost use Rattle.evaluator.specs.Outcomes.{mapped};
+ghost use Rattle.words.specs.Decimal.{numbers-from};
+ghost use Rattle.lines.specs.Lines.{said, evaluation-said, limits-shown, limits-in, readings-in, evaluation-in, choice-named, choice-in, only-word, command-line, line_of, Reads-as};
+ghost use Rattle.words.specs.Outcomes.{Gives};
+ghost use Rattle.words.specs.Splitting.{texts};
+
 use crate::choice::Choice;
 use bounds::limits::Limits;
 use evaluator::evaluation::MOST_VARIABLES;
@@ -15,8 +13,6 @@ use std::alloc::Global;
 use words::decimal::number_at;
 use words::hexadecimal::expression_at;
 use words::problem::Problem;
-use words::problem::ProblemFromAllocError;
-use words::problem::ProblemFromRefused;
 use words::splitting::words_of;
 
 /// An expression to evaluate, with the readings of input variables 0, 1, .., and the limits of the rate.
@@ -41,7 +37,7 @@ const FIRST_READING: usize = 5;
 
 // The limits in two decimal words, words 2 and 3 of their line.
 fn limits_in(low: &str, high: &str) -> Result<Limits, Problem>
-    ensures { λ r. ⌜ mapped limits-shown r ≡ limits-in (now (low .entry)) (now (high .entry)) ⌝ }
+    ensures { mapped limits-shown result ≡ limits-in low.now high.now }
 {
     let low = number_at(2, low)?;
     let high = number_at(3, high)?;
@@ -50,8 +46,8 @@ fn limits_in(low: &str, high: &str) -> Result<Limits, Problem>
 
 // The numbers of all words.
 fn numbers_in(heap: Global, words: &[&str]) -> Result<Vec<i32>, Problem>
-    requires { ⌜ length (now words) ≤ 32 ⌝ }
-    ensures { λ r. ⌜ Gives vec-items (numbers-from 5 (texts (now (words .entry)))) r ⌝ }
+    requires { length words.now ≤ 32 }
+    ensures { Gives vec_items (numbers-from 5 (texts words.now)) result }
 {
     let mut numbers = Vec::new(heap);
     for (i, word) in words.iter().enumerate() {
@@ -63,7 +59,7 @@ fn numbers_in(heap: Global, words: &[&str]) -> Result<Vec<i32>, Problem>
 
 // The readings of input variables 0, 1, .., at most 32.
 fn readings_in(heap: Global, words: &[&str]) -> Result<Vec<i32>, Problem>
-    ensures { λ r. ⌜ Gives vec-items (readings-in (texts (now (words .entry)))) r ⌝ }
+    ensures { Gives vec_items (readings-in (texts words.now)) result }
 {
     if words.len() > MOST_VARIABLES {
         return Err(Problem::TooManyReadings);
@@ -73,7 +69,7 @@ fn readings_in(heap: Global, words: &[&str]) -> Result<Vec<i32>, Problem>
 
 // What stands after `evaluate`.
 fn evaluation_in(heap: Global, words: &[&str]) -> Result<Evaluation, Problem>
-    ensures { λ r. ⌜ Gives evaluation-said (evaluation-in (texts (now (words .entry)))) r ⌝ }
+    ensures { Gives evaluation-said (evaluation-in (texts words.now)) result }
 {
     let [low, high, code, readings @ ..] = words else {
         return Err(Problem::MissingWord);
@@ -90,7 +86,7 @@ fn evaluation_in(heap: Global, words: &[&str]) -> Result<Evaluation, Problem>
 
 // The arithmetic of that name.
 fn choice_named(name: &str) -> Result<Choice, Problem>
-    ensures { λ r. ⌜ r ≡ choice-named (now (name .entry)) ⌝ }
+    ensures { result ≡ choice-named name.now }
 {
     match name {
         "plain" => Ok(Choice::Plain),
@@ -101,7 +97,7 @@ fn choice_named(name: &str) -> Result<Choice, Problem>
 
 // What stands after `arithmetic`.
 fn choice_in(words: &[&str]) -> Result<Choice, Problem>
-    ensures { λ r. ⌜ r ≡ choice-in (texts (now (words .entry))) ⌝ }
+    ensures { result ≡ choice-in (texts words.now) }
 {
     match words {
         [] => Err(Problem::MissingWord),
@@ -112,7 +108,7 @@ fn choice_in(words: &[&str]) -> Result<Choice, Problem>
 
 // The line of a command that takes no words.
 fn only_word(line: Line, words: &[&str]) -> Result<Line, Problem>
-    ensures { λ r. ⌜ mapped said r ≡ only-word (said line) (texts (now (words .entry))) ⌝ }
+    ensures { mapped said result ≡ only-word (said line) (texts words.now) }
 {
     if words.is_empty() {
         Ok(line)
@@ -123,7 +119,7 @@ fn only_word(line: Line, words: &[&str]) -> Result<Line, Problem>
 
 // The line of a command and the words after it.
 fn command_line(heap: Global, command: &str, words: &[&str]) -> Result<Line, Problem>
-    ensures { λ r. ⌜ Gives said (command-line (now (command .entry)) (texts (now (words .entry)))) r ⌝ }
+    ensures { Gives said (command-line command.now (texts words.now)) result }
 {
     match command {
         "arithmetic" => Ok(Line::Arithmetic(choice_in(words)?)),
@@ -135,7 +131,7 @@ fn command_line(heap: Global, command: &str, words: &[&str]) -> Result<Line, Pro
 
 // The line of all its words; none, or a first word that begins with `#`, ask for nothing.
 fn line_of(heap: Global, words: &[&str]) -> Result<Line, Problem>
-    ensures { λ r. ⌜ Gives said (line-of (texts (now (words .entry)))) r ⌝ }
+    ensures { Gives said (line_of (texts words.now)) result }
 {
     match words {
         [] => Ok(Line::Nothing),
@@ -146,7 +142,7 @@ fn line_of(heap: Global, words: &[&str]) -> Result<Line, Problem>
 
 /// What a line of text asks for.
 pub fn parse(heap: Global, text: &str) -> Result<Line, Problem>
-    ensures { λ r. ⌜ Reads-as (now (text .entry)) r ⌝ }
+    ensures { Reads-as text.now result }
 {
     let words = words_of(heap, text)?;
     line_of(heap, words.as_slice())

@@ -1,18 +1,13 @@
 -- What is known of a program that was read.
-use Prim.Native.Nat.{ℕ, _+_}
-use mathlib.Core.Bool.{true, false}
-use mathlib.Core.List.{List}
-use lib.Dec.{leb}
-use Rattle·std.specs.declared.result.Result.{Result}
-use Rattle·std.specs.declared.result.Result.the-variants.{Ok, Err}
-use Rattle·rules.specs.Lengths.{tick-length, longest-tick}
-use Rattle·rules.specs.Outcomes.{_>>=_, ensure}
-use Rattle·rules.specs.Text.{Program, count, arms}
-use Rattle·rules.specs.Variables.{Variable}
-use Rattle·rules.specs.declared.faults.LoadFault.{LoadFault}
-use Rattle·rules.specs.declared.faults.LoadFault.the-variants.{TickTooLong}
-use Rattle·declarations.specs.Listing.{listed}
-use Rattle·loader·specs.declared.program.Checked.{Checked}
+use Rattle.std.specs.Prelude.{ℕ, ◌+◌, true, false, List, Ok, Err, Result, nat_le}
+use Rattle.rules.specs.Lengths.{tick-length, longest-tick}
+use Rattle.rules.specs.Outcomes.{◌>>=◌, ensure}
+use Rattle.rules.specs.Text.{Program, count, arms}
+use Rattle.rules.specs.Variables.{Variable}
+use Rattle.rules.specs.declared.faults.LoadFault.{LoadFault}
+use Rattle.rules.specs.declared.faults.LoadFault.TheVariants.{TickTooLong}
+use Rattle.declarations.specs.Listing.{listed}
+use Rattle.loader.specs.declared.program.Checked.{Checked}
 
 -- Its variables, its tick length, and how many statements and threads it has.
 pub record Outline : Type 0 where
@@ -23,14 +18,14 @@ pub record Outline : Type 0 where
 
 -- What the code keeps of it.
 abbrev pub outline : Checked → Outline
-outline c = record { variables = listed (c .declarations); ticks = c .«tick_length»; statements = c .statements; threads = c .threads }
+outline c = record { variables = listed c.declarations; ticks = c.tick_length; statements = c.statements; threads = c.threads }
 
 -- What the program is: main and each arm is a thread.
 abbrev pub outline-of : Program → Outline
-outline-of p = record { variables = p .variables; ticks = tick-length p; statements = count (p .main); threads = 1 + arms (p .main) }
+outline-of p = record { variables = p.variables; ticks = tick-length p; statements = count p.main; threads = 1 + arms p.main }
 
 -- The tick length of a program whose main block is so long; one over the limit is refused.
 abbrev pub in-time : ℕ → Result ℕ LoadFault
 in-time n = do
-  _ ← ensure (leb (n + 1) longest-tick) TickTooLong
+  _ ← ensure (nat_le (n + 1) longest-tick) TickTooLong
   Ok (n + 1)

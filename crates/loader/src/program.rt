@@ -1,11 +1,11 @@
 //! Reads a whole program.
-ghost use mathlib.Core.Path.{_≡_};
-ghost use Rattle·evaluator.specs.Outcomes.{mapped};
-ghost use Rattle·rules.specs.Reading.{read};
-ghost use Rattle·loader·specs.Outlines.{in-time, outline, outline-of};
+ghost use Rattle.std.specs.Prelude.{◌≡◌};
+ghost use Rattle.evaluator.specs.Outcomes.{mapped};
+ghost use Rattle.rules.specs.Reading.{read};
+ghost use Rattle.loader.specs.Outlines.{in-time, outline, outline-of};
+
 use declarations::list::Declarations;
-use declarations::program::owners_live;
-use declarations::program::read_declarations;
+use declarations::program::{owners_live, read_declarations};
 use reader::extents::Extent;
 use reader::program::read_main;
 use rules::faults::LoadFault;
@@ -24,7 +24,7 @@ pub struct Checked {
 
 // The tick length of a program whose main block has this extent; too long where it is over the limit.
 fn tick_length(extent: Extent) -> Result<u32, LoadFault>
-    ensures { λ r. ⌜ r ≡ in-time (extent .length) ⌝ }
+    ensures { result ≡ in-time extent.length }
 {
     if extent.length >= LONGEST_TICK {
         return Err(LoadFault::TickTooLong);
@@ -34,7 +34,7 @@ fn tick_length(extent: Extent) -> Result<u32, LoadFault>
 
 /// Reads and checks a program: what is known of it, or its first fault.
 pub fn read_program(bytes: &[u8]) -> Result<Checked, LoadFault>
-    ensures { λ r. ⌜ mapped outline r ≡ mapped outline-of (read (now (bytes .entry))) ⌝ }
+    ensures { mapped outline result ≡ mapped outline-of (read bytes.now) }
 {
     let declarations = read_declarations(bytes)?;
     let count = declarations.as_slice().len();

@@ -1,57 +1,52 @@
 -- Two lists of bytes that are equally long, and the same before a certain place.
-use Prim.Native.Nat.{ℕ, suc, _+_, _≤_, _<_}
-use mathlib.Core.List.{List, _∷_}
-use mathlib.Core.Logic.{⊎-elim}
-use mathlib.Core.Path.{_≡_, refl, sym, ap, _∙_}
-use native.Mathlib.Omega.{arith}
-use lib.ListN.{length, length-take, length-drop, getD, take, drop}
-use Rattle·std.proofs.shelf.Lists.{ext-getD, getD-take, getD-drop, getD-past}
-use Rattle·std.proofs.shelf.Tests.{cases-lt}
+use Rattle.std.proofs.Common.{◌≡◌, ℕ, suc, ◌+◌, ◌<◌, ◌≤◌, List, ◌∷◌, length, get_or, take, drop, sym, refl, ap, ◌∙◌, ⊎_elim, arith, length-drop, length-take}
+use Rattle.std.proofs.lemmas.List.{ext_get_or, get_or-take, get_or-drop, get_or_past}
+use Rattle.std.proofs.lemmas.Bool.{cases_lt}
 
 -- Bytes that begin at place s: equally many, and the same before place m.
-pub record Alike (s m : ℕ) (bs bs′ : List ℕ) : Type 0 where
-  pub long : length bs ≡ length bs′
-  pub same : (i : ℕ) → s + i < m → getD bs i 0 ≡ getD bs′ i 0
+pub record Alike (s m : ℕ) (bs bs' : List ℕ) : Type 0 where
+  pub long : length bs ≡ length bs'
+  pub same : (i : ℕ) → s + i < m → get_or bs i 0 ≡ get_or bs' i 0
 
 -- Bytes are alike themselves.
-pub alike-self : (s m : ℕ) (bs : List ℕ) → Alike s m bs bs
-alike-self s m bs = record { long = refl; same = λ i h. refl }
+pub alike_self : (s m : ℕ) (bs : List ℕ) → Alike s m bs bs
+alike_self s m bs = record { long = refl; same = λ i h. refl }
 
 -- Equally many bytes with the same front are alike.
-pub alike-by-front : (m : ℕ) (bs bs′ : List ℕ) → length bs ≡ length bs′ → take m bs ≡ take m bs′ → Alike 0 m bs bs′
-alike-by-front m bs bs′ l h = record {
+pub alike-by-front : (m : ℕ) (bs bs' : List ℕ) → length bs ≡ length bs' → take m bs ≡ take m bs' → Alike 0 m bs bs'
+alike-by-front m bs bs' l h = record {
   long = l;
-  same = λ i lt. let k : i < m = omega arith in sym (getD-take m bs i 0 k) ∙ ap (λ xs. getD xs i 0) h ∙ getD-take m bs′ i 0 k;
+  same = λ i lt. let k : i < m = omega arith in sym (get_or-take m bs i 0 k) ∙ ap (λ xs. get_or xs i 0) h ∙ get_or-take m bs' i 0 k;
 }
 
 module _ (s m : ℕ) where
   -- The first bytes are the same, where that is before m.
-  pub alike-first : (b b′ : ℕ) (bs bs′ : List ℕ) → s < m → Alike s m (b ∷ bs) (b′ ∷ bs′) → b ≡ b′
-  alike-first b b′ bs bs′ lt h = h .same 0 (omega arith)
+  pub alike-first : (b b' : ℕ) (bs bs' : List ℕ) → s < m → Alike s m (b ∷ bs) (b' ∷ bs') → b ≡ b'
+  alike-first b b' bs bs' lt h = h.same 0 (omega arith)
 
   -- What comes after the first bytes is alike.
-  pub alike-rest : (b b′ : ℕ) (bs bs′ : List ℕ) → Alike s m (b ∷ bs) (b′ ∷ bs′) → Alike (s + 1) m bs bs′
-  alike-rest b b′ bs bs′ h = let l = h .long in record { long = omega arith; same = λ i lt. h .same (suc i) (omega arith) }
+  pub alike-rest : (b b' : ℕ) (bs bs' : List ℕ) → Alike s m (b ∷ bs) (b' ∷ bs') → Alike (s + 1) m bs bs'
+  alike-rest b b' bs bs' h = let l = h.long in record { long = omega arith; same = λ i lt. h.same (suc i) (omega arith) }
 
   -- Fronts of alike bytes are alike.
-  pub alike-take : (n : ℕ) (bs bs′ : List ℕ) → Alike s m bs bs′ → Alike s m (take n bs) (take n bs′)
-  alike-take n bs bs′ h =
-      let l = h .long in let k = length-take n bs in let k′ = length-take n bs′ in
+  pub alike-take : (n : ℕ) (bs bs' : List ℕ) → Alike s m bs bs' → Alike s m (take n bs) (take n bs')
+  alike-take n bs bs' h =
+      let l = h.long in let k = length-take n bs in let k' = length-take n bs' in
       record {
         long = omega arith;
         same = λ i lt.
-            ⊎-elim
-            (λ under. getD-take n bs i 0 under ∙ h .same i lt ∙ sym (getD-take n bs′ i 0 under))
-            (λ over. getD-past (take n bs) i 0 (omega arith) ∙ sym (getD-past (take n bs′) i 0 (omega arith)))
-            (cases-lt i n);
+            ⊎_elim
+            (λ under. get_or-take n bs i 0 under ∙ h.same i lt ∙ sym (get_or-take n bs' i 0 under))
+            (λ over. get_or_past (take n bs) i 0 (omega arith) ∙ sym (get_or_past (take n bs') i 0 (omega arith)))
+            (cases_lt i n);
       }
 
   -- What comes after a front of alike bytes is alike.
-  pub alike-drop : (n : ℕ) (bs bs′ : List ℕ) → Alike s m bs bs′ → Alike (s + n) m (drop n bs) (drop n bs′)
-  alike-drop n bs bs′ h =
-      let l = h .long in let k = length-drop n bs in let k′ = length-drop n bs′ in
-      record { long = omega arith; same = λ i lt. getD-drop n bs i 0 ∙ h .same (n + i) (omega arith) ∙ sym (getD-drop n bs′ i 0) }
+  pub alike-drop : (n : ℕ) (bs bs' : List ℕ) → Alike s m bs bs' → Alike (s + n) m (drop n bs) (drop n bs')
+  alike-drop n bs bs' h =
+      let l = h.long in let k = length-drop n bs in let k' = length-drop n bs' in
+      record { long = omega arith; same = λ i lt. get_or-drop n bs i 0 ∙ h.same (n + i) (omega arith) ∙ sym (get_or-drop n bs' i 0) }
 
   -- Alike bytes that end before m are the same.
-  pub alike-all : (bs bs′ : List ℕ) → s + length bs ≤ m → Alike s m bs bs′ → bs ≡ bs′
-  alike-all bs bs′ short h = ext-getD 0 bs bs′ (h .long) (λ i lt. h .same i (omega arith))
+  pub alike_all : (bs bs' : List ℕ) → s + length bs ≤ m → Alike s m bs bs' → bs ≡ bs'
+  alike_all bs bs' short h = ext_get_or 0 bs bs' h.long (λ i lt. h.same i (omega arith))

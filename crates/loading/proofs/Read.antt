@@ -1,79 +1,72 @@
 -- Statements and blocks: what is read was written, and keeps the rules.
-use Prim.Native.Nat.{ℕ, zero, suc, _+_, _-_, _≤_, _<_}
-use mathlib.Core.Bool.{Bool, true, false, _||_, not}
-use mathlib.Core.List.{List, [], _∷_, _++_}
-use mathlib.Core.Path.{_≡_, refl, sym, ap, subst, _∙_}
-use native.Mathlib.Omega.{arith}
-use lib.Dec.{ltb}
-use lib.ListN.{length, length-append}
-use Rattle·std.specs.declared.result.Result.the-variants.{Ok}
-use Rattle·std.proofs.shelf.Tests.{leb-true, ltb-true, and-parts}
-use Rattle·evaluator.specs.Commands.{written}
-use Rattle·rules.specs.Encoding.{form-byte, statement-bytes, block-bytes}
-use Rattle·rules.specs.Forms.{forms, has-expression, has-block, has-second-block, par-count, flags-known, build}
-use Rattle·rules.specs.Outcomes.{refused-as, numbered}
-use Rattle·rules.specs.Reading.{most-statements, most-pars, parts-in, code-place, Counts, after-statement, before-first, before-second, block-thread, within-limits, set-right, expression-of, Head, Reads, read-head, read-statement, read-statements, read-block}
-use Rattle·rules.specs.Text.{Expression, Stmt, Block, end, count-of, count, pars-of, pars, depth, inner-depth}
-use Rattle·rules.specs.Valid.{Right-expression, Right-statement, Right-block}
-use Rattle·rules.specs.declared.program.Form.{Form}
-use Rattle·rules.specs.declared.program.Form.the-variants.{Nothing, Set, Pause, If, Loop, Par, Abort}
-use Rattle·rules.specs.Variables.{Variable}
-use Rattle·loading·proofs.Expressions.{expression-from}
-use Rattle·loading·proofs.Numbers.{Bytes}
-use Rattle·loading·proofs.Parts.{joined, Parted, parts-from}
-use Rattle·loading·proofs.Results.{bind-inv, some-then, ensure-then, refused-inv, same-ok, numbered-from, no-way, no-way′}
-use Rattle·loading·proofs.Shapes.{Shaped, bytes-by-form, counted, some-bytes}
+use Rattle.std.proofs.Common.{◌≡◌, ℕ, zero, suc, ◌+◌, ◌-◌, ◌<◌, ◌≤◌, Bool, true, false, not, ◌||◌, ltb, List, [], ◌∷◌, ◌++◌, length, Ok, sym, refl, ap, ◌∙◌, subst, arith, length-append}
+use Rattle.std.proofs.lemmas.Bool.{leb-true, ltb-true, and_parts}
+use Rattle.evaluator.specs.Commands.{written}
+use Rattle.rules.specs.Encoding.{form-byte, statement-bytes, block-bytes}
+use Rattle.rules.specs.Forms.{forms, has-expression, has_block, has-second-block, par-count, flags-known, build}
+use Rattle.rules.specs.Outcomes.{refused_as, numbered}
+use Rattle.rules.specs.Reading.{most-statements, most-pars, parts_in, code-place, Counts, after-statement, before-first, before-second, block-thread, within-limits, set-right, expression-of, Head, Reads, read_head, read-statement, read-statements, read-block}
+use Rattle.rules.specs.Text.{Expression, Stmt, Block, end, count_of, count, pars-of, pars, depth, inner-depth}
+use Rattle.rules.specs.Valid.{Right-expression, Right-statement, Right-block}
+use Rattle.rules.specs.declared.program.Form.{Form}
+use Rattle.rules.specs.declared.program.Form.TheVariants.{Nothing, Set, Pause, If, Loop, Par, Abort}
+use Rattle.rules.specs.Variables.{Variable}
+use Rattle.loading.proofs.Expressions.{expression-from}
+use Rattle.loading.proofs.Numbers.{Bytes}
+use Rattle.loading.proofs.Parts.{joined, Parted, parts_from}
+use Rattle.loading.proofs.Results.{bind_inv, some_then, ensure-then, refused-inv, same_ok, numbered-from, no_way, no-way'}
+use Rattle.loading.proofs.Shapes.{Shaped, bytes-by-form, counted, some_bytes}
 
 ---------------------------------------------------------------------- a statement before its blocks
 
 -- An expression that is read where the form has one is right, and was written so; elsewhere there is none.
 expression-of-from : (ds : List Variable) (t from at : ℕ) (b : Bool) (bs : List ℕ) (e : Expression) → Bytes bs → (b ≡ false → bs ≡ []) → expression-of ds t from at b bs ≡ Ok e → (b ≡ false → e ≡ []) × (b ≡ true → Right-expression ds t e) × (written e ≡ bs)
-expression-of-from ds t from at false bs e h none r = let is = same-ok r in (λ _. sym is, no-way, ap written (sym is) ∙ sym (none refl))
-expression-of-from ds t from at true bs e h none r = let f = expression-from ds t from at bs e h r in (no-way′, λ _. f .0, f .1)
+expression-of-from ds t from at false bs e h none r = let is = same_ok r in (λ _. sym is, no_way, ap written (sym is) ∙ sym (none refl))
+expression-of-from ds t from at true bs e h none r = let f = expression-from ds t from at bs e h r in (no-way', λ _. f.0, f.1)
 
 -- What the test of limits tells.
-limits-from : (n : ℕ) (k : Form) (a : Counts) → within-limits n k a ≡ true → (a .statements < most-statements) × (a .pars + par-count k ≤ most-pars) × (has-block k ≡ true → 0 < n)
+limits-from : (n : ℕ) (k : Form) (a : Counts) → within-limits n k a ≡ true → (a.statements < most-statements) × (a.pars + par-count k ≤ most-pars) × (has_block k ≡ true → 0 < n)
 limits-from n k a h =
-    let u = and-parts _ _ h in let v = and-parts _ _ (u .1) in
-    (ltb-true _ _ (u .0), leb-true _ _ (v .0), room (has-block k) (v .1)) where
+    let u = and_parts _ _ h in let v = and_parts _ _ u.1 in
+    (ltb-true _ _ u.0, leb-true _ _ v.0, room (has_block k) v.1) where
       room : (b : Bool) → (not b || ltb 0 n) ≡ true → b ≡ true → 0 < n
       room true e r = ltb-true 0 n e
-      room false e r = no-way r
+      room false e r = no_way r
 
 module _ (ds : List Variable) (n t : ℕ) (a : Counts) (p c : ℕ) (bs : List ℕ) where
   -- What reading tells of a statement before its blocks.
   record Headed (h : Head) : Type 0 where
-    known : form-byte (h .form) ≡ c
-    limited : (a .statements < most-statements) × (a .pars + par-count (h .form) ≤ most-pars) × (has-block (h .form) ≡ true → 0 < n)
-    parted : Parted (h .form) bs (h .parts)
-    flagged : flags-known (h .form) (h .parts .byte) ≡ true
-    named : set-right ds t (h .form) (h .parts .byte) ≡ true
-    no-code : has-expression (h .form) ≡ false → h .expression ≡ []
-    right : has-expression (h .form) ≡ true → Right-expression ds t (h .expression)
-    code : written (h .expression) ≡ h .parts .code
+    known : form-byte h.form ≡ c
+    limited : (a.statements < most-statements) × (a.pars + par-count h.form ≤ most-pars) × (has_block h.form ≡ true → 0 < n)
+    parted : Parted h.form bs h.parts
+    flagged : flags-known h.form h.parts.byte ≡ true
+    named : set-right ds t h.form h.parts.byte ≡ true
+    no_code : has-expression h.form ≡ false → h.expression ≡ []
+    right : has-expression h.form ≡ true → Right-expression ds t h.expression
+    code : written h.expression ≡ h.parts.code
 
   -- A statement before its blocks that is read tells this.
-  head-from : (h : Head) → Bytes bs → read-head ds n t a p c bs ≡ Ok h → Headed h
+  head-from : (h : Head) → Bytes bs → read_head ds n t a p c bs ≡ Ok h → Headed h
   head-from h bytes z =
-      let z0 = some-then (numbered form-byte forms c) _ _ h z in
-      let k = z0 .0 in
-      let z1 = ensure-then (within-limits n k a) _ _ h (z0 .2) in
-      let z2 = bind-inv (refused-as _ (parts-in p k bs)) _ h (z1 .1) in
-      let o = z2 .0 in
-      let z3 = ensure-then (flags-known k (o .byte)) _ _ h (z2 .2) in
-      let z4 = ensure-then (set-right ds t k (o .byte)) _ _ h (z3 .1) in
-      let z5 = bind-inv (expression-of ds t (code-place k p) p (has-expression k) (o .code)) _ h (z4 .1) in
-      let parted = parts-from p k bs o bytes (refused-inv _ (parts-in p k bs) o (z2 .1)) in
-      let e = expression-of-from ds t (code-place k p) p (has-expression k) (o .code) (z5 .0) (parted .code-bytes) (parted .fitting .no-code) (z5 .1) in
-      subst Headed {x = record { form = k; parts = o; expression = z5 .0 }} (same-ok (z5 .2)) (record {
-        known = numbered-from form-byte forms c k (z0 .1);
-        limited = limits-from n k a (z1 .0);
+      let z0 = some_then (numbered form-byte forms c) _ _ h z in
+      let k = z0.0 in
+      let z1 = ensure-then (within-limits n k a) _ _ h z0.2 in
+      let z2 = bind_inv (refused_as _ (parts_in p k bs)) _ h z1.1 in
+      let o = z2.0 in
+      let z3 = ensure-then (flags-known k o.byte) _ _ h z2.2 in
+      let z4 = ensure-then (set-right ds t k o.byte) _ _ h z3.1 in
+      let z5 = bind_inv (expression-of ds t (code-place k p) p (has-expression k) o.code) _ h z4.1 in
+      let parted = parts_from p k bs o bytes (refused-inv _ (parts_in p k bs) o z2.1) in
+      let e = expression-of-from ds t (code-place k p) p (has-expression k) o.code z5.0 parted.code-bytes parted.fitting.no_code z5.1 in
+      subst Headed {x = record { form = k; parts = o; expression = z5.0 }} (same_ok z5.2) (record {
+        known = numbered-from form-byte forms c k z0.1;
+        limited = limits-from n k a z1.0;
         parted = parted;
-        flagged = z3 .0;
-        named = z4 .0;
-        no-code = e .0;
-        right = e .1;
-        code = e .2;
+        flagged = z3.0;
+        named = z4.0;
+        no_code = e.0;
+        right = e.1;
+        code = e.2;
       })
 
 ---------------------------------------------------------------------- a statement with its blocks
@@ -81,56 +74,56 @@ module _ (ds : List Variable) (n t : ℕ) (a : Counts) (p c : ℕ) (bs : List �
 -- What reading tells of a block of thread t after the counts a, with n nested blocks allowed.
 pub record Came (ds : List Variable) (n t : ℕ) (a : Counts) (bs : List ℕ) (B : Block (Unit {0})) : Type 0 where
   pub same : block-bytes B ≡ bs
-  pub few : a .statements + count B ≤ most-statements
-  pub few-pars : a .pars + pars B ≤ most-pars
+  pub few : a.statements + count B ≤ most-statements
+  pub few-pars : a.pars + pars B ≤ most-pars
   pub shallow : depth B ≤ n
-  pub right : Right-block ds t (a .threads) B
+  pub right : Right-block ds t a.threads B
 
 -- What is known of how inner blocks are read.
 record Deeper (ds : List Variable) (n : ℕ) (deeper : Reads) : Type 0 where
-  of-none : (t : ℕ) (a : Counts) (z : ℕ) → deeper t a z [] ≡ Ok end
-  of-some : (t : ℕ) (a : Counts) (z : ℕ) (bs : List ℕ) (B : Block (Unit {0})) → 0 < n → Bytes bs → a .statements ≤ most-statements → a .pars ≤ most-pars → deeper t a z bs ≡ Ok B → Came ds n t a bs B
+  of_none : (t : ℕ) (a : Counts) (z : ℕ) → deeper t a z [] ≡ Ok end
+  of_some : (t : ℕ) (a : Counts) (z : ℕ) (bs : List ℕ) (B : Block (Unit {0})) → 0 < n → Bytes bs → a.statements ≤ most-statements → a.pars ≤ most-pars → deeper t a z bs ≡ Ok B → Came ds n t a bs B
 
 -- What reading tells of an inner block, or of none where the form has none.
 record Inner (ds : List Variable) (n : ℕ) (b : Bool) (t : ℕ) (a : Counts) (bs : List ℕ) (B : Block (Unit {0})) : Type 0 where
   same : block-bytes B ≡ bs
-  few : a .statements + count B ≤ most-statements
-  few-pars : a .pars + pars B ≤ most-pars
+  few : a.statements + count B ≤ most-statements
+  few-pars : a.pars + pars B ≤ most-pars
   none : b ≡ false → B ≡ end
   shallow : b ≡ true → depth B ≤ n
-  right : b ≡ true → Right-block ds t (a .threads) B
+  right : b ≡ true → Right-block ds t a.threads B
 
 -- An inner block that is read tells this.
-inner-from : (ds : List Variable) (n : ℕ) (deeper : Reads) (b : Bool) (t : ℕ) (a : Counts) (z : ℕ) (bs : List ℕ) (B : Block (Unit {0})) → Deeper ds n deeper → (b ≡ true → 0 < n) → (b ≡ false → bs ≡ []) → Bytes bs → a .statements ≤ most-statements → a .pars ≤ most-pars → deeper t a z bs ≡ Ok B → Inner ds n b t a bs B
+inner-from : (ds : List Variable) (n : ℕ) (deeper : Reads) (b : Bool) (t : ℕ) (a : Counts) (z : ℕ) (bs : List ℕ) (B : Block (Unit {0})) → Deeper ds n deeper → (b ≡ true → 0 < n) → (b ≡ false → bs ≡ []) → Bytes bs → a.statements ≤ most-statements → a.pars ≤ most-pars → deeper t a z bs ≡ Ok B → Inner ds n b t a bs B
 inner-from ds n deeper true t a z bs B D some none h p q r =
-    let c = D .of-some t a z bs B (some refl) h p q r in
-    record { same = c .same; few = c .few; few-pars = c .few-pars; none = no-way′; shallow = λ _. c .shallow; right = λ _. c .right }
+    let c = D.of_some t a z bs B (some refl) h p q r in
+    record { same = c.same; few = c.few; few-pars = c.few-pars; none = no-way'; shallow = λ _. c.shallow; right = λ _. c.right }
 inner-from ds n deeper false t a z bs B D some none h p q r =
-    let is : end ≡ B = same-ok (sym (D .of-none t a z) ∙ ap (deeper t a z) (sym (none refl)) ∙ r) in
+    let is : end ≡ B = same_ok (sym (D.of_none t a z) ∙ ap (deeper t a z) (sym (none refl)) ∙ r) in
     record {
       same = ap block-bytes (sym is) ∙ sym (none refl);
-      few = subst (λ C. a .statements + count C ≤ most-statements) is (omega arith);
-      few-pars = subst (λ C. a .pars + pars C ≤ most-pars) is (omega arith);
+      few = subst (λ C. a.statements + count C ≤ most-statements) is (omega arith);
+      few-pars = subst (λ C. a.pars + pars C ≤ most-pars) is (omega arith);
       none = λ _. sym is;
-      shallow = no-way;
-      right = no-way;
+      shallow = no_way;
+      right = no_way;
     }
 
 -- What reading tells of a statement and of the bytes after it.
 record Came-first (ds : List Variable) (n t : ℕ) (a : Counts) (c : ℕ) (bs : List ℕ) (s : Stmt (Unit {0})) (after : List ℕ) : Type 0 where
   same : statement-bytes s ++ after ≡ c ∷ bs
   bytes : Bytes after
-  few : a .statements + count-of s ≤ most-statements
-  few-pars : a .pars + pars-of s ≤ most-pars
+  few : a.statements + count_of s ≤ most-statements
+  few-pars : a.pars + pars-of s ≤ most-pars
   shallow : inner-depth s ≤ n
-  right : Right-statement ds t (a .threads) s
+  right : Right-statement ds t a.threads s
 
 -- A block that is right is so for an equal thread and an equal number of the next arm.
-at : (ds : List Variable) (t t′ u u′ : ℕ) (B : Block (Unit {0})) → t ≡ t′ → u ≡ u′ → Right-block ds t u B → Right-block ds t′ u′ B
-at ds t t′ u u′ B p q h = subst (λ k. Right-block ds k u′ B) p (subst (λ k. Right-block ds t k B) q h)
+at : (ds : List Variable) (t t' u u' : ℕ) (B : Block (Unit {0})) → t ≡ t' → u ≡ u' → Right-block ds t u B → Right-block ds t' u' B
+at ds t t' u u' B p q h = subst (λ k. Right-block ds k u' B) p (subst (λ k. Right-block ds t k B) q h)
 
 -- A form that has a second block has a first.
-second-has-first : (k : Form) → has-second-block k ≡ true → has-block k ≡ true
+second-has-first : (k : Form) → has-second-block k ≡ true → has_block k ≡ true
 second-has-first Nothing e = e
 second-has-first Set e = e
 second-has-first Pause e = e
@@ -142,10 +135,10 @@ second-has-first Abort e = refl
 module _ (ds : List Variable) (n t : ℕ) (a : Counts) (X Y : Block (Unit {0})) where
   -- What is known of the first and of the second block of a statement.
   abbrev First : Form → List ℕ → Type 0
-  First k bs = Inner ds n (has-block k) (block-thread k t (before-first k a .threads)) (before-first k a) bs X
+  First k bs = Inner ds n (has_block k) (block-thread k t (before-first k a).threads) (before-first k a) bs X
 
   abbrev Second : Form → List ℕ → Type 0
-  Second k bs = Inner ds n (has-second-block k) (block-thread k t (before-second k X a .threads)) (before-second k X a) bs Y
+  Second k bs = Inner ds n (has-second-block k) (block-thread k t (before-second k X a).threads) (before-second k X a) bs Y
 
   module _ (o : ℕ) (e : Expression) (bs cs : List ℕ) where
     -- The statement is no deeper than its blocks may be.
@@ -153,97 +146,97 @@ module _ (ds : List Variable) (n t : ℕ) (a : Counts) (X Y : Block (Unit {0})) 
     shallow-by-form Nothing f g = omega arith
     shallow-by-form Set f g = omega arith
     shallow-by-form Pause f g = omega arith
-    shallow-by-form If f g = let p = f .shallow refl in let q = g .shallow refl in omega arith
-    shallow-by-form Loop f g = f .shallow refl
-    shallow-by-form Par f g = let p = f .shallow refl in let q = g .shallow refl in omega arith
-    shallow-by-form Abort f g = f .shallow refl
+    shallow-by-form If f g = let p = f.shallow refl in let q = g.shallow refl in omega arith
+    shallow-by-form Loop f g = f.shallow refl
+    shallow-by-form Par f g = let p = f.shallow refl in let q = g.shallow refl in omega arith
+    shallow-by-form Abort f g = f.shallow refl
 
     -- The statement is right if its byte, its expression and its blocks are.
-    right-by-form : (k : Form) → o < 256 → set-right ds t k o ≡ true → (has-expression k ≡ true → Right-expression ds t e) → First k bs → Second k cs → Right-statement ds t (a .threads) (build k o e X Y)
+    right-by-form : (k : Form) → o < 256 → set-right ds t k o ≡ true → (has-expression k ≡ true → Right-expression ds t e) → First k bs → Second k cs → Right-statement ds t a.threads (build k o e X Y)
     right-by-form Nothing s v r f g = tt
     right-by-form Set s v r f g = (v, r refl)
     right-by-form Pause s v r f g = tt
-    right-by-form If s v r f g = (r refl, at ds t t _ _ X refl (omega arith) (f .right refl), at ds t t _ _ Y refl (omega arith) (g .right refl))
-    right-by-form Loop s v r f g = (s, r refl, at ds t t _ _ X refl (omega arith) (f .right refl))
-    right-by-form Par s v r f g = (at ds _ _ _ _ X (omega arith) refl (f .right refl), at ds _ _ _ _ Y (omega arith) (omega arith) (g .right refl))
-    right-by-form Abort s v r f g = (r refl, at ds t t _ _ X refl (omega arith) (f .right refl))
+    right-by-form If s v r f g = (r refl, at ds t t _ _ X refl (omega arith) (f.right refl), at ds t t _ _ Y refl (omega arith) (g.right refl))
+    right-by-form Loop s v r f g = (s, r refl, at ds t t _ _ X refl (omega arith) (f.right refl))
+    right-by-form Par s v r f g = (at ds _ _ _ _ X (omega arith) refl (f.right refl), at ds _ _ _ _ Y (omega arith) (omega arith) (g.right refl))
+    right-by-form Abort s v r f g = (r refl, at ds t t _ _ X refl (omega arith) (f.right refl))
 
   -- From what is known of a statement before its blocks, and of its blocks.
-  concluded : (p c : ℕ) (bs : List ℕ) (h : Head) → Headed ds n t a p c bs h → First (h .form) (h .parts .first) → Second (h .form) (h .parts .second) →
-      Came-first ds n t a c bs (build (h .form) (h .parts .byte) (h .expression) X Y) (h .parts .after)
-  concluded p c bs h H X′ Y′ =
-      let k = h .form in let o = h .parts in let e = h .expression in
-      let shaped : Shaped (o .byte) e X Y k = record { no-byte = H .parted .fitting .no-byte; no-code = H .no-code; no-block = X′ .none; no-second = Y′ .none } in
-      let few : a .statements + 1 + count X + count Y ≤ most-statements = Y′ .few in
-      let few-pars : a .pars + par-count k + pars X + pars Y ≤ most-pars = Y′ .few-pars in
-      let counts = counted (o .byte) e X Y k shaped in
+  concluded : (p c : ℕ) (bs : List ℕ) (h : Head) → Headed ds n t a p c bs h → First h.form h.parts.first → Second h.form h.parts.second →
+      Came-first ds n t a c bs (build h.form h.parts.byte h.expression X Y) h.parts.after
+  concluded p c bs h H X' Y' =
+      let k = h.form in let o = h.parts in let e = h.expression in
+      let shaped : Shaped o.byte e X Y k = record { no_byte = H.parted.fitting.no_byte; no_code = H.no_code; no_block = X'.none; no_second = Y'.none } in
+      let few : a.statements + 1 + count X + count Y ≤ most-statements = Y'.few in
+      let few-pars : a.pars + par-count k + pars X + pars Y ≤ most-pars = Y'.few-pars in
+      let counts = counted o.byte e X Y k shaped in
       record {
         same =
-            bytes-by-form (o .byte) e X Y k (o .after) shaped (H .flagged)
-            ∙ (λ i. H .known i ∷ joined k (record { byte = o .byte; code = H .code i; first = X′ .same i; second = Y′ .same i; after = o .after }))
-            ∙ ap (λ l. c ∷ l) (H .parted .same);
-        bytes = H .parted .after-bytes;
+            bytes-by-form o.byte e X Y k o.after shaped H.flagged
+            ∙ (λ i. H.known i ∷ joined k (record { byte = o.byte; code = H.code i; first = X'.same i; second = Y'.same i; after = o.after }))
+            ∙ ap (λ l. c ∷ l) H.parted.same;
+        bytes = H.parted.after-bytes;
         few = omega arith;
         few-pars = omega arith;
-        shallow = shallow-by-form (o .byte) e (o .first) (o .second) k X′ Y′;
-        right = right-by-form (o .byte) e (o .first) (o .second) k (H .parted .byte-small) (H .named) (H .right) X′ Y′;
+        shallow = shallow-by-form o.byte e o.first o.second k X' Y';
+        right = right-by-form o.byte e o.first o.second k H.parted.byte_small H.named H.right X' Y';
       }
 
 module _ (ds : List Variable) (n : ℕ) (deeper : Reads) (D : Deeper ds n deeper) (t : ℕ) where
   -- A statement that is read was written so, and keeps the rules.
-  statement-from : (a : Counts) (z c : ℕ) (bs : List ℕ) (r : Stmt (Unit {0}) × List ℕ) → Bytes bs → read-statement ds n deeper t a z c bs ≡ Ok r → Came-first ds n t a c bs (r .0) (r .1)
+  statement-from : (a : Counts) (z c : ℕ) (bs : List ℕ) (r : Stmt (Unit {0}) × List ℕ) → Bytes bs → read-statement ds n deeper t a z c bs ≡ Ok r → Came-first ds n t a c bs r.0 r.1
   statement-from a z c bs r bytes y =
       let p = z - suc (length bs) in
-      let y0 = bind-inv (refused-as _ (read-head ds n t a p c bs)) _ r y in
-      let h = y0 .0 in
-      let H = head-from ds n t a p c bs h bytes (refused-inv _ (read-head ds n t a p c bs) h (y0 .1)) in
-      let k = h .form in let o = h .parts in
-      let lt : a .statements < most-statements = H .limited .0 in
-      let one : a .statements + 1 ≤ most-statements = omega arith in
-      let y1 = bind-inv (deeper (block-thread k t (before-first k a .threads)) (before-first k a) (z - length (o .after) - length (o .second)) (o .first)) _ r (y0 .2) in
-      let X = y1 .0 in
-      let X′ = inner-from ds n deeper (has-block k) (block-thread k t (before-first k a .threads)) (before-first k a) _ (o .first) X D (H .limited .2) (H .parted .fitting .no-block) (H .parted .first-bytes) one (H .limited .1) (y1 .1) in
-      let y2 = bind-inv (deeper (block-thread k t (before-second k X a .threads)) (before-second k X a) (z - length (o .after)) (o .second)) _ r (y1 .2) in
-      let Y = y2 .0 in
-      let Y′ = inner-from ds n deeper (has-second-block k) (block-thread k t (before-second k X a .threads)) (before-second k X a) _ (o .second) Y D (λ q. H .limited .2 (second-has-first k q)) (H .parted .fitting .no-second) (H .parted .second-bytes) (X′ .few) (X′ .few-pars) (y2 .1) in
-      let P : Stmt (Unit {0}) × List ℕ → Type 0 = λ q. Came-first ds n t a c bs (q .0) (q .1) in
-      subst P (same-ok (y2 .2)) (concluded ds n t a X Y p c bs h H X′ Y′)
+      let y0 = bind_inv (refused_as _ (read_head ds n t a p c bs)) _ r y in
+      let h = y0.0 in
+      let H = head-from ds n t a p c bs h bytes (refused-inv _ (read_head ds n t a p c bs) h y0.1) in
+      let k = h.form in let o = h.parts in
+      let lt : a.statements < most-statements = H.limited.0 in
+      let one : a.statements + 1 ≤ most-statements = omega arith in
+      let y1 = bind_inv (deeper (block-thread k t (before-first k a).threads) (before-first k a) (z - length o.after - length o.second) o.first) _ r y0.2 in
+      let X = y1.0 in
+      let X' = inner-from ds n deeper (has_block k) (block-thread k t (before-first k a).threads) (before-first k a) _ o.first X D H.limited.2 H.parted.fitting.no_block H.parted.first-bytes one H.limited.1 y1.1 in
+      let y2 = bind_inv (deeper (block-thread k t (before-second k X a).threads) (before-second k X a) (z - length o.after) o.second) _ r y1.2 in
+      let Y = y2.0 in
+      let Y' = inner-from ds n deeper (has-second-block k) (block-thread k t (before-second k X a).threads) (before-second k X a) _ o.second Y D (λ q. H.limited.2 (second-has-first k q)) H.parted.fitting.no_second H.parted.second-bytes X'.few X'.few-pars y2.1 in
+      let P : Stmt (Unit {0}) × List ℕ → Type 0 = λ q. Came-first ds n t a c bs q.0 q.1 in
+      subst P (same_ok y2.2) (concluded ds n t a X Y p c bs h H X' Y')
 
   -- Statements that are read to the end of a block were written so, and keep the rules.
-  statements-from : (f : ℕ) (a : Counts) (z : ℕ) (bs : List ℕ) (B : Block (Unit {0})) → Bytes bs → length bs ≤ f → a .statements ≤ most-statements → a .pars ≤ most-pars → read-statements ds n deeper t f a z bs ≡ Ok B → Came ds (suc n) t a bs B
-  statements-from f a z [] B h long p q r = subst (Came ds (suc n) t a []) (same-ok r) (record { same = refl; few = omega arith; few-pars = omega arith; shallow = omega arith; right = tt })
+  statements-from : (f : ℕ) (a : Counts) (z : ℕ) (bs : List ℕ) (B : Block (Unit {0})) → Bytes bs → length bs ≤ f → a.statements ≤ most-statements → a.pars ≤ most-pars → read-statements ds n deeper t f a z bs ≡ Ok B → Came ds (suc n) t a bs B
+  statements-from f a z [] B h long p q r = subst (Came ds (suc n) t a []) (same_ok r) (record { same = refl; few = omega arith; few-pars = omega arith; shallow = omega arith; right = tt })
   statements-from zero a z (c ∷ bs) B h long p q r = absurd (omega arith)
   statements-from (suc f) a z (c ∷ bs) B h long p q r =
-      let y0 = bind-inv (read-statement ds n deeper t a z c bs) _ B r in
-      let s = y0 .0 .0 in let after = y0 .0 .1 in
-      let S = statement-from a z c bs (y0 .0) (h .1) (y0 .1) in
-      let l0 = ap length (S .same) in let l1 = length-append (statement-bytes s) after in let l2 = some-bytes s in
-      let y1 = bind-inv (read-statements ds n deeper t f (after-statement s a) z after) _ B (y0 .2) in
-      let R = statements-from f (after-statement s a) z after (y1 .0) (S .bytes) (omega arith) (S .few) (S .few-pars) (y1 .1) in
-      let few : a .statements + count-of s + count (y1 .0) ≤ most-statements = R .few in
-      let few-pars : a .pars + pars-of s + pars (y1 .0) ≤ most-pars = R .few-pars in
-      let s0 = S .shallow in let s1 = R .shallow in
-      subst (Came ds (suc n) t a (c ∷ bs)) (same-ok (y1 .2)) (record {
-        same = ap (λ l. statement-bytes s ++ l) (R .same) ∙ S .same;
+      let y0 = bind_inv (read-statement ds n deeper t a z c bs) _ B r in
+      let s = y0.0.0 in let after = y0.0.1 in
+      let S = statement-from a z c bs y0.0 h.1 y0.1 in
+      let l0 = ap length S.same in let l1 = length-append (statement-bytes s) after in let l2 = some_bytes s in
+      let y1 = bind_inv (read-statements ds n deeper t f (after-statement s a) z after) _ B y0.2 in
+      let R = statements-from f (after-statement s a) z after y1.0 S.bytes (omega arith) S.few S.few-pars y1.1 in
+      let few : a.statements + count_of s + count y1.0 ≤ most-statements = R.few in
+      let few-pars : a.pars + pars-of s + pars y1.0 ≤ most-pars = R.few-pars in
+      let s0 = S.shallow in let s1 = R.shallow in
+      subst (Came ds (suc n) t a (c ∷ bs)) (same_ok y1.2) (record {
+        same = ap (λ l. statement-bytes s ++ l) R.same ∙ S.same;
         few = omega arith;
         few-pars = omega arith;
         shallow = omega arith;
-        right = (S .right, R .right);
+        right = (S.right, R.right);
       })
 
 ---------------------------------------------------------------------- blocks
 
 -- How inner blocks are read, at each allowed nesting.
 deeper-than : (ds : List Variable) (n : ℕ) → Deeper ds n (read-block ds n)
-deeper-than ds zero = record { of-none = λ t a z. refl; of-some = λ t a z bs B some. absurd (omega arith) }
+deeper-than ds zero = record { of_none = λ t a z. refl; of_some = λ t a z bs B some. absurd (omega arith) }
 deeper-than ds (suc n) = record {
-  of-none = λ t a z. refl;
-  of-some = λ t a z bs B some h p q r. statements-from ds n (read-block ds n) (deeper-than ds n) t (length bs) a z bs B h (omega arith) p q r;
+  of_none = λ t a z. refl;
+  of_some = λ t a z bs B some h p q r. statements-from ds n (read-block ds n) (deeper-than ds n) t (length bs) a z bs B h (omega arith) p q r;
 }
 
 -- A block that is read was written so, and keeps the rules.
-pub block-from : (ds : List Variable) (n t : ℕ) (a : Counts) (z : ℕ) (bs : List ℕ) (B : Block (Unit {0})) → 0 < n → Bytes bs → a .statements ≤ most-statements → a .pars ≤ most-pars → read-block ds n t a z bs ≡ Ok B → Came ds n t a bs B
-block-from ds n t a z bs B = deeper-than ds n .of-some t a z bs B
+pub block-from : (ds : List Variable) (n t : ℕ) (a : Counts) (z : ℕ) (bs : List ℕ) (B : Block (Unit {0})) → 0 < n → Bytes bs → a.statements ≤ most-statements → a.pars ≤ most-pars → read-block ds n t a z bs ≡ Ok B → Came ds n t a bs B
+block-from ds n t a z bs B = (deeper-than ds n).of_some t a z bs B
 
 ---------------------------------------------------------------------- what a statement was read from
 
@@ -252,50 +245,50 @@ pub record Statement-came (ds : List Variable) (n t : ℕ) (a : Counts) (z c : �
   pub head : Head
   pub first : Block (Unit {0})
   pub second : Block (Unit {0})
-  pub head-read : read-head ds n t a (z - suc (length bs)) c bs ≡ Ok head
-  pub first-read : read-block ds n (block-thread (head .form) t (before-first (head .form) a .threads)) (before-first (head .form) a) (z - length (head .parts .after) - length (head .parts .second)) (head .parts .first) ≡ Ok first
-  pub second-read : read-block ds n (block-thread (head .form) t (before-second (head .form) first a .threads)) (before-second (head .form) first a) (z - length (head .parts .after)) (head .parts .second) ≡ Ok second
-  pub is : r ≡ (build (head .form) (head .parts .byte) (head .expression) first second, head .parts .after)
-  pub same : statement-bytes (r .0) ++ r .1 ≡ c ∷ bs
-  pub first-same : block-bytes first ≡ head .parts .first
-  pub second-same : block-bytes second ≡ head .parts .second
-  pub no-first : has-block (head .form) ≡ false → first ≡ end
-  pub no-second : has-second-block (head .form) ≡ false → second ≡ end
-  pub code-same : written (head .expression) ≡ head .parts .code
-  pub first-bytes : Bytes (head .parts .first)
-  pub second-bytes : Bytes (head .parts .second)
-  pub after-bytes : Bytes (head .parts .after)
+  pub head_read : read_head ds n t a (z - suc (length bs)) c bs ≡ Ok head
+  pub first_read : read-block ds n (block-thread head.form t (before-first head.form a).threads) (before-first head.form a) (z - length head.parts.after - length head.parts.second) head.parts.first ≡ Ok first
+  pub second-read : read-block ds n (block-thread head.form t (before-second head.form first a).threads) (before-second head.form first a) (z - length head.parts.after) head.parts.second ≡ Ok second
+  pub is : r ≡ (build head.form head.parts.byte head.expression first second, head.parts.after)
+  pub same : statement-bytes r.0 ++ r.1 ≡ c ∷ bs
+  pub first-same : block-bytes first ≡ head.parts.first
+  pub second-same : block-bytes second ≡ head.parts.second
+  pub no-first : has_block head.form ≡ false → first ≡ end
+  pub no_second : has-second-block head.form ≡ false → second ≡ end
+  pub code_same : written head.expression ≡ head.parts.code
+  pub first-bytes : Bytes head.parts.first
+  pub second-bytes : Bytes head.parts.second
+  pub after-bytes : Bytes head.parts.after
 
 pub statement-came : (ds : List Variable) (n t : ℕ) (a : Counts) (z c : ℕ) (bs : List ℕ) (r : Stmt (Unit {0}) × List ℕ) → Bytes bs → read-statement ds n (read-block ds n) t a z c bs ≡ Ok r → Statement-came ds n t a z c bs r
 statement-came ds n t a z c bs r bytes y =
     let D = deeper-than ds n in
     let p = z - suc (length bs) in
-    let y0 = bind-inv (refused-as _ (read-head ds n t a p c bs)) _ r y in
-    let h = y0 .0 in
-    let read = refused-inv _ (read-head ds n t a p c bs) h (y0 .1) in
+    let y0 = bind_inv (refused_as _ (read_head ds n t a p c bs)) _ r y in
+    let h = y0.0 in
+    let read = refused-inv _ (read_head ds n t a p c bs) h y0.1 in
     let H = head-from ds n t a p c bs h bytes read in
-    let k = h .form in let o = h .parts in
-    let lt : a .statements < most-statements = H .limited .0 in
-    let one : a .statements + 1 ≤ most-statements = omega arith in
-    let y1 = bind-inv (read-block ds n (block-thread k t (before-first k a .threads)) (before-first k a) (z - length (o .after) - length (o .second)) (o .first)) _ r (y0 .2) in
-    let X′ = inner-from ds n (read-block ds n) (has-block k) (block-thread k t (before-first k a .threads)) (before-first k a) _ (o .first) (y1 .0) D (H .limited .2) (H .parted .fitting .no-block) (H .parted .first-bytes) one (H .limited .1) (y1 .1) in
-    let y2 = bind-inv (read-block ds n (block-thread k t (before-second k (y1 .0) a .threads)) (before-second k (y1 .0) a) (z - length (o .after)) (o .second)) _ r (y1 .2) in
-    let Y′ = inner-from ds n (read-block ds n) (has-second-block k) (block-thread k t (before-second k (y1 .0) a .threads)) (before-second k (y1 .0) a) _ (o .second) (y2 .0) D (λ q. H .limited .2 (second-has-first k q)) (H .parted .fitting .no-second) (H .parted .second-bytes) (X′ .few) (X′ .few-pars) (y2 .1) in
+    let k = h.form in let o = h.parts in
+    let lt : a.statements < most-statements = H.limited.0 in
+    let one : a.statements + 1 ≤ most-statements = omega arith in
+    let y1 = bind_inv (read-block ds n (block-thread k t (before-first k a).threads) (before-first k a) (z - length o.after - length o.second) o.first) _ r y0.2 in
+    let X' = inner-from ds n (read-block ds n) (has_block k) (block-thread k t (before-first k a).threads) (before-first k a) _ o.first y1.0 D H.limited.2 H.parted.fitting.no_block H.parted.first-bytes one H.limited.1 y1.1 in
+    let y2 = bind_inv (read-block ds n (block-thread k t (before-second k y1.0 a).threads) (before-second k y1.0 a) (z - length o.after) o.second) _ r y1.2 in
+    let Y' = inner-from ds n (read-block ds n) (has-second-block k) (block-thread k t (before-second k y1.0 a).threads) (before-second k y1.0 a) _ o.second y2.0 D (λ q. H.limited.2 (second-has-first k q)) H.parted.fitting.no_second H.parted.second-bytes X'.few X'.few-pars y2.1 in
     record {
       head = h;
-      first = y1 .0;
-      second = y2 .0;
-      head-read = read;
-      first-read = y1 .1;
-      second-read = y2 .1;
-      is = sym (same-ok (y2 .2));
-      same = statement-from ds n (read-block ds n) D t a z c bs r bytes y .same;
-      first-same = X′ .same;
-      second-same = Y′ .same;
-      no-first = X′ .none;
-      no-second = Y′ .none;
-      code-same = H .code;
-      first-bytes = H .parted .first-bytes;
-      second-bytes = H .parted .second-bytes;
-      after-bytes = H .parted .after-bytes;
+      first = y1.0;
+      second = y2.0;
+      head_read = read;
+      first_read = y1.1;
+      second-read = y2.1;
+      is = sym (same_ok y2.2);
+      same = (statement-from ds n (read-block ds n) D t a z c bs r bytes y).same;
+      first-same = X'.same;
+      second-same = Y'.same;
+      no-first = X'.none;
+      no_second = Y'.none;
+      code_same = H.code;
+      first-bytes = H.parted.first-bytes;
+      second-bytes = H.parted.second-bytes;
+      after-bytes = H.parted.after-bytes;
     }

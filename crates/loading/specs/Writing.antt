@@ -1,13 +1,10 @@
 -- Valid programs and the bytes that they are written as.
-use Prim.Native.Nat.{ℕ, _<_}
-use mathlib.Core.List.{_∷_}
-use mathlib.Core.Path.{_≡_}
-use Rattle·std.specs.declared.result.Result.the-variants.{Ok}
-use Rattle·std.specs.shelf.Lists.{All}
-use Rattle·rules.specs.Encoding.{encode}
-use Rattle·rules.specs.Reading.{read}
-use Rattle·rules.specs.Text.{Program}
-use Rattle·rules.specs.Valid.{Valid}
+use Rattle.std.specs.Prelude.{◌≡◌, ℕ, ◌<◌, ◌∷◌, Ok}
+use Rattle.std.specs.List.{AllByRecursion as All}
+use Rattle.rules.specs.Encoding.{encode}
+use Rattle.rules.specs.Reading.{read}
+use Rattle.rules.specs.Text.{Program}
+use Rattle.rules.specs.Valid.{Valid}
 
 -- A program that is written in bytes.
 abbrev pub In-bytes : Program → Type 0

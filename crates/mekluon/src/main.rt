@@ -1,15 +1,11 @@
 //! Reads a job from standard input, performs it line by line, and prints the answers.
-ghost use mathlib.Core.Path.{_≡_};
-ghost use Prim.Native.Nat.{_+_, _-_, _^_, min};
+ghost use Rattle.std.specs.Prelude.{◌≡◌, ◌+◌, ◌-◌, ◌^◌, min};
+
 use console::answer::Answer;
-use console::answer::AnswerDisplay;
 use console::session::Session;
-use std::fmt;
-use std::io;
-use std::io::BufRead;
-use std::io::BufReader;
+use std::io::{BufRead, BufReader};
+use std::{fmt, io};
 use words::problem::Problem;
-use words::problem::ProblemDisplay;
 
 /// Why a job ends before its last line.
 #[derive(Drop)]
@@ -19,7 +15,7 @@ enum Stop {
     UnwrittenAnswer(io::Error),
 }
 
-impl fmt::Display for Stop as StopDisplay {
+impl fmt::Display for Stop {
     fn fmt<W: fmt::Write>(&self, f: &mut fmt::Formatter<W>) -> fmt::Result {
         match self {
             Stop::BadLine(line, problem) => write!(f, "line {line}: {problem}"),
@@ -29,7 +25,7 @@ impl fmt::Display for Stop as StopDisplay {
     }
 }
 
-impl From<io::Error> for Stop as StopFromError {
+impl From<io::Error> for Stop {
     fn from(error: io::Error) -> Stop {
         Stop::UnwrittenAnswer(error)
     }
@@ -37,25 +33,25 @@ impl From<io::Error> for Stop as StopFromError {
 
 // The number of the line after this one; the count stops at the highest number.
 fn following(line: u64) -> u64
-    ensures { λ r. ⌜ r ≡ min (line + 1) (2 ^ 64 - 1) ⌝ }
+    ensures { result ≡ min (line + 1) (2 ^ 64 - 1) }
 {
     line.saturating_add(1)
 }
 
 // Performs a line, and prints its answer if it has one.
-fn perform(rt: &LibcRuntime, session: &mut Session, line: u64, text: &str) -> Result<(), Stop> {
+fn perform(rt: &HostRuntime, session: &mut Session, line: u64, text: &str) -> Result<(), Stop> {
     match session.take_line(rt.alloc(), text) {
         Ok(Answer::Nothing) => Ok(()),
-        Ok(answer) => Ok(println!(rt, "{answer}")?),
+        Ok(answer) => Ok(println!(rt; "{answer}")?),
         Err(problem) => Err(Stop::BadLine(line, problem)),
     }
 }
 
 // Performs all lines of standard input, up to the first bad one.
-fn run(rt: &LibcRuntime) -> Result<(), Stop> {
+fn run(rt: &HostRuntime) -> Result<(), Stop> {
     let mut session = Session::new();
     let mut line = 0;
-    for text in BufReader::new(rt.stdin()).lines(rt.alloc()) {
+    for text in BufReader::new(rt.alloc(), rt.stdin())?.lines(rt.alloc()) {
         line = following(line);
         match text {
             Ok(text) => perform(rt, &mut session, line, text.as_str())?,
@@ -65,11 +61,11 @@ fn run(rt: &LibcRuntime) -> Result<(), Stop> {
     Ok(())
 }
 
-fn main(rt: LibcRuntime) -> Result<(), Stop> {
+fn main(rt: HostRuntime) -> Result<(), Stop> {
     match run(&rt) {
         Ok(()) => Ok(()),
         Err(stop) => {
-            eprintln!(rt, "{stop}")?;
+            eprintln!(rt; "{stop}")?;
             Err(stop)
         }
     }

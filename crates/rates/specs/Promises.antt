@@ -1,18 +1,11 @@
 -- What is promised of rates.
-use Prim.Native.Nat.{ℕ, _/_, _%_, _^_}
-use mathlib.Core.Bool.{Bool, false}
-use mathlib.Core.List.{List}
-use mathlib.Core.Path.{_≡_}
-use lib.Dec.{eqb}
-use lib.IntN.{ℤ}
-use lib.ListN.{length}
-use Rattle·std.specs.declared.result.Result.the-variants.{Ok}
-use Rattle·std.specs.shelf.Maps.{nth}
-use Rattle·arithmetic.specs.Plain.{plain}
-use Rattle·arithmetic.specs.Tracing.{tracing}
-use Rattle·arithmetic.specs.declared.traced.Traced.{Traced}
-use Rattle·evaluator.specs.Outcomes.{mapped}
-use Rattle·rates·specs.Rates.{rate-of, shown-number}
+use Rattle.std.specs.Prelude.{◌≡◌, ℕ, ◌/◌, ◌%◌, ◌^◌, Bool, false, List, length, ℤ, Ok, ◌==◌, ◌≢◌}
+use Rattle.std.specs.List.{slice_get}
+use Rattle.arithmetic.specs.Plain.{plain}
+use Rattle.arithmetic.specs.Tracing.{tracing}
+use Rattle.arithmetic.specs.declared.traced.Traced.{Traced}
+use Rattle.evaluator.specs.Outcomes.{mapped}
+use Rattle.rates.specs.Rates.{rate-of, shown-number}
 
 -- Tracing never changes a rate: the number that a traced rate shows is the plain one, and so is each refusal.
 abbrev pub Tracing-keeps-the-rate : Type 0
@@ -22,16 +15,16 @@ Tracing-keeps-the-rate =
 
 -- Input variable i is among the probes of a mask if bit i of the mask is 1.
 abbrev pub has-probe : ℕ → ℕ → Bool
-has-probe i mask = eqb (mask / 2 ^ i % 2) 1
+has-probe i mask = mask / 2 ^ i % 2 == 1
 
 -- Two lists of readings differ at input i at most: they are as long, and equal at every other place.
-pub record Differ-only-at (i : ℕ) (rs rs′ : List ℤ) : Type 0 where
-  pub long : length rs ≡ length rs′
-  pub same : (k : ℕ) → (k ≡ i → ⊥) → nth rs k ≡ nth rs′ k
+pub record Differ-only-at (i : ℕ) (rs rs' : List ℤ) : Type 0 where
+  pub long : length rs ≡ length rs'
+  pub same : (k : ℕ) → (k ≢ i) → slice_get rs k ≡ slice_get rs' k
 
 -- A probe whose bit is not in the mask did not enter: with another reading of it the traced rate has the same number and the same mask.
 abbrev pub Absent-probes-did-not-enter : Type 0
 Absent-probes-did-not-enter =
-    (low high : ℤ) (bs : List ℕ) (rs rs′ : List ℤ) (i : ℕ) → Differ-only-at i rs rs′ →
-    (x : Traced) → rate-of tracing low high bs rs ≡ Ok x → has-probe i (x .mask) ≡ false →
-    rate-of tracing low high bs rs′ ≡ Ok x
+    (low high : ℤ) (bs : List ℕ) (rs rs' : List ℤ) (i : ℕ) → Differ-only-at i rs rs' →
+    (x : Traced) → rate-of tracing low high bs rs ≡ Ok x → has-probe i x.mask ≡ false →
+    rate-of tracing low high bs rs' ≡ Ok x

@@ -1,36 +1,25 @@
 //! The rate that a formula gives for the readings of probes.
-ghost use mathlib.Core.Bool.{false};
-ghost use mathlib.Core.List.{List};
-ghost use mathlib.Core.Path.{_≡_};
-ghost use Prim.Native.Nat.{ℕ, _<_, _≤_};
-ghost use lib.IntN.{ℤ};
-ghost use lib.ListN.{length};
-ghost use Rattle·std.specs.Vec.{made};
-ghost use Rattle·std.specs.declared.result.Result.the-variants.{Ok};
-ghost use Rattle·std.specs.shelf.Maps.{nth};
-ghost use Rattle·arithmetic.specs.Plain.{plain};
-ghost use Rattle·arithmetic.specs.Tracing.{tracing};
-ghost use Rattle·rates·specs.Promises.{Differ-only-at, has-probe};
-ghost use Rattle·evaluator.specs.Outcomes.{mapped};
-ghost use Rattle·rates·specs.Rates.{rate-of, reading-of, Within, shown-number};
+ghost use Rattle.std.specs.Prelude.{◌≡◌, ℕ, ◌<◌, ◌≤◌, false, List, length, ℤ, IfOk, Ok};
+ghost use Rattle.std.specs.List.{slice_get};
+ghost use Rattle.arithmetic.specs.Plain.{plain};
+ghost use Rattle.arithmetic.specs.Tracing.{tracing};
+ghost use Rattle.rates.specs.Promises.{Differ-only-at, has-probe};
+ghost use Rattle.evaluator.specs.Outcomes.{mapped};
+ghost use Rattle.rates.specs.Rates.{rate-of, reading-of, Within, shown-number};
+
 use arithmetic::Arithmetic;
 use arithmetic::plain::Plain;
-use arithmetic::plain::PlainArithmetic;
 use arithmetic::traced::Traced;
 use arithmetic::tracing::Tracing;
-use arithmetic::tracing::TracingArithmetic;
 use bounds::limits::Limits;
 use bounds::refusal::Refusal;
 use bounds::scope::FirstPlaces;
-use bounds::scope::FirstPlacesScope;
-use evaluator::evaluation::ALL_PLACES;
-use evaluator::evaluation::MOST_VARIABLES;
-use evaluator::evaluation::evaluate;
+use evaluator::evaluation::{ALL_PLACES, MOST_VARIABLES, evaluate};
 
 // The k-th reading goes into the k-th place.
 fn place_readings<A: Arithmetic>(arithmetic: &A, readings: &[i32], memory: &mut [A::Value])
-    requires { ⌜ length (now readings) ≤ 32 ⌝ ∗ ⌜ length (now memory) ≡ 1040 ⌝ }
-    ensures { λ _. ⌜ ((v : ℕ) → v < length (now (readings .entry)) → nth (now (memory .exit)) v ≡ reading-of (A·Arithmetic .meaning (now (arithmetic .entry))) (now (readings .entry)) v) ⌝ }
+    requires { (length readings.now ≤ 32) × (length memory.old ≡ 1040) }
+    ensures { (v : ℕ) → v < length readings.now → slice_get memory.new v ≡ reading-of (A.Arithmetic.meaning arithmetic.now) readings.now v }
 {
     for i in 0..readings.len() {
         memory[i] = arithmetic.reading(i as u8, readings[i]);
@@ -45,9 +34,9 @@ fn rate_within<A: Arithmetic>(
     readings: &[i32],
     memory: &mut [A::Value],
 ) -> Result<A::Value, Refusal>
-    requires { ⌜ length (now memory) ≡ 1040 ⌝ }
-    ensures answer { λ r. ⌜ r ≡ rate-of (A·Arithmetic .meaning (now (arithmetic .entry))) (limits .low) (limits .high) (now (code .entry)) (now (readings .entry)) ⌝ }
-    ensures within { λ r. ⌜ made r (Within (A·Arithmetic .meaning (now (arithmetic .entry))) (limits .low) (limits .high)) ⌝ }
+    requires { length memory.old ≡ 1040 }
+    ensures answer { result ≡ rate-of (A.Arithmetic.meaning arithmetic.now) limits.low limits.high code.now readings.now }
+    ensures within { IfOk result (Within (A.Arithmetic.meaning arithmetic.now) limits.low limits.high) }
 {
     if readings.len() > MOST_VARIABLES {
         return Err(Refusal::Readings);
@@ -62,8 +51,8 @@ fn rate_within<A: Arithmetic>(
 
 /// The rate in plain numbers: the value of an expression in which variable k has the k-th reading, limited.
 pub fn plain_rate(limits: Limits, code: &[u8], readings: &[i32]) -> Result<i32, Refusal>
-    ensures answer { λ r. ⌜ r ≡ rate-of plain (limits .low) (limits .high) (now (code .entry)) (now (readings .entry)) ⌝ }
-    ensures within { λ r. ⌜ made r (Within plain (limits .low) (limits .high)) ⌝ }
+    ensures answer { result ≡ rate-of plain limits.low limits.high code.now readings.now }
+    ensures within { IfOk result (Within plain limits.low limits.high) }
 {
     let mut memory = [0; ALL_PLACES];
     rate_within(&Plain {}, limits, code, readings, &mut memory)
@@ -71,10 +60,10 @@ pub fn plain_rate(limits: Limits, code: &[u8], readings: &[i32]) -> Result<i32, 
 
 /// The same rate with the probes that it rests on. It shows the plain number; and a probe whose bit is not in the mask did not enter.
 pub fn traced_rate(limits: Limits, code: &[u8], readings: &[i32]) -> Result<Traced, Refusal>
-    ensures answer { λ r. ⌜ r ≡ rate-of tracing (limits .low) (limits .high) (now (code .entry)) (now (readings .entry)) ⌝ }
-    ensures within { λ r. ⌜ made r (Within tracing (limits .low) (limits .high)) ⌝ }
-    ensures number { λ r. ⌜ mapped shown-number r ≡ rate-of plain (limits .low) (limits .high) (now (code .entry)) (now (readings .entry)) ⌝ }
-    ensures probes { λ r. ⌜ ((i : ℕ) (others : List ℤ) → Differ-only-at i (now (readings .entry)) others → (x : Traced) → r ≡ Ok x → has-probe i (x .mask) ≡ false → rate-of tracing (limits .low) (limits .high) (now (code .entry)) others ≡ Ok x) ⌝ }
+    ensures answer { result ≡ rate-of tracing limits.low limits.high code.now readings.now }
+    ensures within { IfOk result (Within tracing limits.low limits.high) }
+    ensures number { mapped shown-number result ≡ rate-of plain limits.low limits.high code.now readings.now }
+    ensures probes { (i : ℕ) (others : List ℤ) → Differ-only-at i readings.now others → (x : Traced) → result ≡ Ok x → has-probe i x.mask ≡ false → rate-of tracing limits.low limits.high code.now others ≡ Ok x }
 {
     let mut memory = [Traced { number: 0, mask: 0 }; ALL_PLACES];
     rate_within(&Tracing {}, limits, code, readings, &mut memory)

@@ -1,19 +1,12 @@
 //! Expressions good and bad, from tables; memories of other lengths.
-use crate::rate::plain_rate;
-use crate::rate::traced_rate;
+use crate::rate::{plain_rate, traced_rate};
 use arithmetic::plain::Plain;
-use arithmetic::plain::PlainArithmetic;
 use arithmetic::traced::Traced;
-use arithmetic::traced::TracedDebug;
-use arithmetic::traced::TracedPartialEq;
 use bounds::limits::Limits;
 use bounds::refusal::Refusal;
-use bounds::refusal::RefusalDebug;
-use bounds::refusal::RefusalPartialEq;
-use bounds::scope::FirstPlaces;
-use bounds::scope::FirstPlacesScope;
+use bounds::scope::{FirstPlaces, Scope};
 use evaluator::evaluation::evaluate;
-use std::test::*;
+use std::test::Fail;
 
 const LOWEST: i32 = -2147483648;
 
@@ -68,277 +61,147 @@ const BAD: [(&[u8], Refusal); 18] = [
 
 // variable 0 sixteen times, and the sum of all
 const SIXTEEN_VALUES: [u8; 47] = [
-    0x41,
-    0x00,
-    0x41,
-    0x00,
-    0x41,
-    0x00,
-    0x41,
-    0x00,
-    0x41,
-    0x00,
-    0x41,
-    0x00,
-    0x41,
-    0x00,
-    0x41,
-    0x00,
-    0x41,
-    0x00,
-    0x41,
-    0x00,
-    0x41,
-    0x00,
-    0x41,
-    0x00,
-    0x41,
-    0x00,
-    0x41,
-    0x00,
-    0x41,
-    0x00,
-    0x41,
-    0x00,
-    0x42,
-    0x42,
-    0x42,
-    0x42,
-    0x42,
-    0x42,
-    0x42,
-    0x42,
-    0x42,
-    0x42,
-    0x42,
-    0x42,
-    0x42,
-    0x42,
-    0x42,
+    0x41, 0x00, 0x41, 0x00, 0x41, 0x00, 0x41, 0x00, 0x41, 0x00, 0x41, 0x00, 0x41, 0x00, 0x41, 0x00,
+    0x41, 0x00, 0x41, 0x00, 0x41, 0x00, 0x41, 0x00, 0x41, 0x00, 0x41, 0x00, 0x41, 0x00, 0x41, 0x00,
+    0x42, 0x42, 0x42, 0x42, 0x42, 0x42, 0x42, 0x42, 0x42, 0x42, 0x42, 0x42, 0x42, 0x42, 0x42,
 ];
 
 // one more than can be stacked; and the same where the last variable does not exist
 const SEVENTEEN_VALUES: [u8; 50] = [
-    0x41,
-    0x00,
-    0x41,
-    0x00,
-    0x41,
-    0x00,
-    0x41,
-    0x00,
-    0x41,
-    0x00,
-    0x41,
-    0x00,
-    0x41,
-    0x00,
-    0x41,
-    0x00,
-    0x41,
-    0x00,
-    0x41,
-    0x00,
-    0x41,
-    0x00,
-    0x41,
-    0x00,
-    0x41,
-    0x00,
-    0x41,
-    0x00,
-    0x41,
-    0x00,
-    0x41,
-    0x00,
-    0x41,
-    0x00,
-    0x42,
-    0x42,
-    0x42,
-    0x42,
-    0x42,
-    0x42,
-    0x42,
-    0x42,
-    0x42,
-    0x42,
-    0x42,
-    0x42,
-    0x42,
-    0x42,
-    0x42,
-    0x42,
+    0x41, 0x00, 0x41, 0x00, 0x41, 0x00, 0x41, 0x00, 0x41, 0x00, 0x41, 0x00, 0x41, 0x00, 0x41, 0x00,
+    0x41, 0x00, 0x41, 0x00, 0x41, 0x00, 0x41, 0x00, 0x41, 0x00, 0x41, 0x00, 0x41, 0x00, 0x41, 0x00,
+    0x41, 0x00, 0x42, 0x42, 0x42, 0x42, 0x42, 0x42, 0x42, 0x42, 0x42, 0x42, 0x42, 0x42, 0x42, 0x42,
+    0x42, 0x42,
 ];
 
 const SEVENTEENTH_UNKNOWN: [u8; 50] = [
-    0x41,
-    0x00,
-    0x41,
-    0x00,
-    0x41,
-    0x00,
-    0x41,
-    0x00,
-    0x41,
-    0x00,
-    0x41,
-    0x00,
-    0x41,
-    0x00,
-    0x41,
-    0x00,
-    0x41,
-    0x00,
-    0x41,
-    0x00,
-    0x41,
-    0x00,
-    0x41,
-    0x00,
-    0x41,
-    0x00,
-    0x41,
-    0x00,
-    0x41,
-    0x00,
-    0x41,
-    0x00,
-    0x41,
-    0x4d,
-    0x42,
-    0x42,
-    0x42,
-    0x42,
-    0x42,
-    0x42,
-    0x42,
-    0x42,
-    0x42,
-    0x42,
-    0x42,
-    0x42,
-    0x42,
-    0x42,
-    0x42,
-    0x42,
+    0x41, 0x00, 0x41, 0x00, 0x41, 0x00, 0x41, 0x00, 0x41, 0x00, 0x41, 0x00, 0x41, 0x00, 0x41, 0x00,
+    0x41, 0x00, 0x41, 0x00, 0x41, 0x00, 0x41, 0x00, 0x41, 0x00, 0x41, 0x00, 0x41, 0x00, 0x41, 0x00,
+    0x41, 0x4d, 0x42, 0x42, 0x42, 0x42, 0x42, 0x42, 0x42, 0x42, 0x42, 0x42, 0x42, 0x42, 0x42, 0x42,
+    0x42, 0x42,
 ];
 
 #[test]
-fn good_expressions() -> Result<(), Fail> {
+fn good_expressions(rt: HostRuntime) -> Result<(), Fail> {
     let Some(limits) = Limits::new(LOWEST, HIGHEST) else {
         return Err(Fail::new("no limits"));
     };
     for (code, number, mask) in GOOD {
-        check(plain_rate(limits, code, &READINGS)? == number)?;
-        check_eq(
+        assert!(rt; plain_rate(limits, code, &READINGS)? == number);
+        assert_eq!(rt;
             traced_rate(limits, code, &READINGS)?,
-            Traced { number, mask },
-        )?;
+            Traced { number, mask }
+        );
     }
     Ok(())
 }
 
 #[test]
-fn bad_expressions() -> Result<(), Fail> {
+fn bad_expressions(rt: HostRuntime) -> Result<(), Fail> {
     let Some(limits) = Limits::new(LOWEST, HIGHEST) else {
         return Err(Fail::new("no limits"));
     };
     for (code, refusal) in BAD {
-        check_eq(plain_rate(limits, code, &READINGS), Err(refusal))?;
-        check_eq(traced_rate(limits, code, &READINGS), Err(refusal))?;
+        assert_eq!(rt; plain_rate(limits, code, &READINGS), Err(refusal));
+        assert_eq!(rt; traced_rate(limits, code, &READINGS), Err(refusal));
     }
     Ok(())
 }
 
 #[test]
-fn seventeen_values() -> Result<(), Fail> {
+fn seventeen_values(rt: HostRuntime) -> Result<(), Fail> {
     let Some(limits) = Limits::new(LOWEST, HIGHEST) else {
         return Err(Fail::new("no limits"));
     };
-    check_eq(plain_rate(limits, &SIXTEEN_VALUES, &READINGS), Ok(19200))?;
-    check_eq(
+    assert_eq!(rt; plain_rate(limits, &SIXTEEN_VALUES, &READINGS), Ok(19200));
+    assert_eq!(rt;
         plain_rate(limits, &SEVENTEEN_VALUES, &READINGS),
-        Err(Refusal::BadExpression(32)),
-    )?;
-    check_eq(
+        Err(Refusal::BadExpression(32))
+    );
+    assert_eq!(rt;
         plain_rate(limits, &SEVENTEENTH_UNKNOWN, &READINGS),
-        Err(Refusal::BadExpression(32)),
-    )
+        Err(Refusal::BadExpression(32))
+    );
+    Ok(())
 }
 
 #[test]
-fn sixty_five_bytes() -> Result<(), Fail> {
+fn sixty_five_bytes(rt: HostRuntime) -> Result<(), Fail> {
     let Some(limits) = Limits::new(LOWEST, HIGHEST) else {
         return Err(Fail::new("no limits"));
     };
     let mut code = [0x49u8; 65];
     code[0] = 0x41;
     code[1] = 0;
-    check_eq(plain_rate(limits, &code[0..64], &READINGS), Ok(1))?;
-    check_eq(
+    assert_eq!(rt; plain_rate(limits, &code[0..64], &READINGS), Ok(1));
+    assert_eq!(rt;
         plain_rate(limits, &code, &READINGS),
-        Err(Refusal::BadExpression(0)),
-    )
+        Err(Refusal::BadExpression(0))
+    );
+    Ok(())
 }
 
 #[test]
-fn rates_are_limited() -> Result<(), Fail> {
+fn rates_are_limited(rt: HostRuntime) -> Result<(), Fail> {
     let Some(limits) = Limits::new(0, 1000) else {
         return Err(Fail::new("no limits"));
     };
-    check_eq(plain_rate(limits, &[0x41, 0], &READINGS), Ok(1000))?;
-    check_eq(plain_rate(limits, &[0x41, 2], &READINGS), Ok(0))?;
-    check_eq(
+    assert_eq!(rt; plain_rate(limits, &[0x41, 0], &READINGS), Ok(1000));
+    assert_eq!(rt; plain_rate(limits, &[0x41, 2], &READINGS), Ok(0));
+    assert_eq!(rt;
         traced_rate(limits, &[0x41, 0], &READINGS),
         Ok(Traced {
             number: 1000,
             mask: 1,
-        }),
-    )?;
-    check(Limits::new(1, 0).is_none())?;
-    check(Limits::new(1, 1).is_some())
+        })
+    );
+    assert!(rt; Limits::new(1, 0).is_none());
+    assert!(rt; Limits::new(1, 1).is_some());
+    Ok(())
 }
 
 #[test]
-fn too_many_readings() -> Result<(), Fail> {
+fn too_many_readings(rt: HostRuntime) -> Result<(), Fail> {
     let Some(limits) = Limits::new(LOWEST, HIGHEST) else {
         return Err(Fail::new("no limits"));
     };
     let readings = [5; 33];
-    check_eq(plain_rate(limits, &[0x41, 31], &readings[0..32]), Ok(5))?;
-    check_eq(
+    assert_eq!(rt; plain_rate(limits, &[0x41, 31], &readings[0..32]), Ok(5));
+    assert_eq!(rt;
         plain_rate(limits, &[0x41, 31], &readings),
-        Err(Refusal::Readings),
-    )
+        Err(Refusal::Readings)
+    );
+    Ok(())
 }
 
 #[test]
-fn memories_of_other_lengths() -> Result<(), Fail> {
+fn memories_of_other_lengths(rt: HostRuntime) {
     let scope = FirstPlaces { count: 255 };
     let code = [0x41, 200];
     let mut right = [3; 1040];
     let mut short = [3; 1039];
     let mut long = [3; 1041];
-    check_eq(evaluate(&Plain {}, &scope, &code, &mut right), Ok(3))?;
-    check_eq(
+    assert_eq!(rt; evaluate(&Plain {}, &scope, &code, &mut right), Ok(3));
+    assert_eq!(rt;
         evaluate(&Plain {}, &scope, &code, &mut short),
-        Err(Refusal::Memory),
-    )?;
-    check_eq(
+        Err(Refusal::Memory)
+    );
+    assert_eq!(rt;
         evaluate(&Plain {}, &scope, &code, &mut long),
-        Err(Refusal::Memory),
-    )?;
-    check_eq(
+        Err(Refusal::Memory)
+    );
+    assert_eq!(rt;
         evaluate(&Plain {}, &scope, &code, &mut []),
-        Err(Refusal::Memory),
-    )
+        Err(Refusal::Memory)
+    );
 }
 
 #[test]
-fn numbers_of_refusals() -> Result<(), Fail> {
-    check(Refusal::BadExpression(12).number() == 6 && Refusal::BadExpression(12).place() == 12)?;
-    check(Refusal::WrongVariable(3).number() == 7 && Refusal::WrongVariable(3).place() == 3)?;
-    check(Refusal::Memory.number() == 11 && Refusal::Memory.place() == 0)?;
-    check(Refusal::Readings.number() == 15 && Refusal::Readings.place() == 0)
+fn numbers_of_refusals(rt: HostRuntime) {
+    assert!(rt;
+        Refusal::BadExpression(12).number() == 6 && Refusal::BadExpression(12).place() == 12
+    );
+    assert!(rt; Refusal::WrongVariable(3).number() == 7 && Refusal::WrongVariable(3).place() == 3);
+    assert!(rt; Refusal::Memory.number() == 11 && Refusal::Memory.place() == 0);
+    assert!(rt; Refusal::Readings.number() == 15 && Refusal::Readings.place() == 0);
 }

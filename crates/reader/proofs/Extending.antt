@@ -1,28 +1,24 @@
 -- The extents of statements and blocks, by the extents of their parts.
-use Prim.Native.Nat.{ℕ, zero, suc, _+_, _-_, _*_, _%_, _^_, _≤_, max}
-use mathlib.Core.Bool.{Bool, true, false, cond, _&&_, _||_}
-use mathlib.Core.Logic.{⊎-elim}
-use mathlib.Core.Path.{_≡_, refl, sym, ap, _∙_}
-use native.Mathlib.Omega.{arith}
-use lib.Dec.{leb, eqb, eqb·suc-zero}
-use Rattle·std.proofs.shelf.Tests.{cases-bool, leb-true, leb-false}
-use Rattle·rules.specs.Lengths.{length-of, block-length, pauses, must-pause}
-use Rattle·rules.specs.Text.{Expression, Stmt, branch, loop, par, abort, Block, _then_}
-use Rattle·rules.specs.Forms.{build}
-use Rattle·rules.specs.declared.program.Form.{Form}
-use Rattle·rules.specs.declared.program.Form.the-variants as Form
-use Rattle·reader·specs.declared.extents.Extent.{Extent}
-use Rattle·reader·specs.Extents.{capped, extent, extent-of, joined, either, looped, paired, aborted, built}
+use Rattle.std.proofs.Common.{◌≡◌, ℕ, zero, suc, ◌+◌, ◌-◌, ◌*◌, ◌%◌, ◌^◌, ◌≤◌, max, Bool, true, false, cond, ◌&&◌, ◌||◌, eqb, leb, sym, refl, ap, ◌∙◌, ⊎_elim, arith}
+use lib.Dec.{eqb-suc-zero}
+use Rattle.std.proofs.lemmas.Bool.{cases_Bool, leb-true, leb-false}
+use Rattle.rules.specs.Lengths.{length-of, block-length, pauses, must-pause}
+use Rattle.rules.specs.Text.{Expression, Stmt, branch, loop, par, abort, Block, ◌then◌}
+use Rattle.rules.specs.Forms.{build}
+use Rattle.rules.specs.declared.program.Form.{Form}
+use Rattle.rules.specs.declared.program.Form.TheVariants as Form
+use Rattle.reader.specs.declared.extents.Extent.{Extent}
+use Rattle.reader.specs.Extents.{capped, extent, extent-of, joined, either, looped, paired, aborted, built}
 
-or-assoc : (a b c : Bool) → ((a || b) || c) ≡ (a || (b || c))
-or-assoc true b c = refl
-or-assoc false b c = refl
+or_assoc : (a b c : Bool) → ((a || b) || c) ≡ (a || (b || c))
+or_assoc true b c = refl
+or_assoc false b c = refl
 
 -- A statement and then a block extend what was before.
 pub joins : (x : Extent) (s : Stmt (Unit {0})) (B : Block (Unit {0})) → joined x (extent (s then B)) ≡ joined (joined x (extent-of s)) (extent B)
 joins x s B =
-    let h : capped (x .length + capped (length-of s + block-length B)) ≡ capped (capped (x .length + capped (length-of s)) + capped (block-length B)) = omega arith in
-    λ i. record { length = h i; pauses = sym (or-assoc (x .pauses) (pauses s) (must-pause B)) i }
+    let h : capped (x.length + capped (length-of s + block-length B)) ≡ capped (capped (x.length + capped (length-of s)) + capped (block-length B)) = omega arith in
+    λ i. record { length = h i; pauses = sym (or_assoc x.pauses (pauses s) (must-pause B)) i }
 
 -- Nothing before a block.
 pub joins-none : (B : Block (Unit {0})) → joined (record { length = 0; pauses = false }) (extent B) ≡ extent B
@@ -43,17 +39,17 @@ big a b p q = omega arith
 -- A product is exact up to the cap, if it has a factor that is.
 times : (n x : ℕ) → capped (suc n * capped x) ≡ capped (suc n * x)
 times n x =
-    ⊎-elim
+    ⊎_elim
     (λ h. let le = leb-true x (2 ^ 32 - 1) h in let is : capped x ≡ x = omega arith in ap (λ k. capped (suc n * k)) is)
     (λ h. let gt = leb-false x (2 ^ 32 - 1) h in let is : capped x ≡ 2 ^ 32 - 1 = omega arith in ap (λ k. capped (suc n * k)) is ∙ big (suc n * (2 ^ 32 - 1)) (suc n * x) (omega arith) (omega arith))
-    (cases-bool (leb x (2 ^ 32 - 1)))
+    (cases_Bool (leb x (2 ^ 32 - 1)))
 
 loops : (n : ℕ) (e : Expression) (X : Block (Unit {0})) → looped n (extent X) ≡ extent-of (loop tt n e X)
 loops zero e X = let h : capped (1 + capped (2 * capped (block-length X))) ≡ capped (1 + 2 * block-length X) = omega arith in λ i. record { length = h i; pauses = false }
 loops (suc n) e X =
     let t = times n (block-length X) in
     let h : capped ((suc n + 1) + capped (suc n * capped (block-length X))) ≡ capped ((suc n + 1) + suc n * block-length X) = omega arith in
-    (λ i. record { length = cond (eqb·suc-zero n i) (capped (1 + capped (2 * capped (block-length X)))) (capped ((suc n + 1) + capped (suc n * capped (block-length X)))); pauses = false }) ∙ (λ i. record { length = h i; pauses = false })
+    (λ i. record { length = cond (eqb-suc-zero n i) (capped (1 + capped (2 * capped (block-length X)))) (capped ((suc n + 1) + capped (suc n * capped (block-length X)))); pauses = false }) ∙ (λ i. record { length = h i; pauses = false })
 
 -- A statement is as long as its blocks say.
 pub builds : (k : Form) (o : ℕ) (e : Expression) (X Y : Block (Unit {0})) → built k o (extent X) (extent Y) ≡ extent-of (build k o e X Y)

@@ -1,77 +1,68 @@
 -- Main's block, as the code reads it.
-use Prim.Native.Nat.{ℕ, zero, suc, _-_, _<_, _≤_, min}
-use mathlib.Core.List.{List, [], _∷_}
-use mathlib.Core.Path.{_≡_, refl, sym, ap, subst, _∙_}
-use native.Mathlib.Omega.{arith}
-use denote.Ref.{now}
-use lib.ListN.{length, getD, take, drop}
-use mir.Syntax.{w8}
-use mir.Val.{Fits}
-use Rattle·std.specs.declared.result.Result.{Result}
-use Rattle·std.specs.declared.result.Result.the-variants.{Ok, Err}
-use Rattle·std.specs.shelf.Lists.{All}
-use Rattle·std.proofs.shelf.Lists.{take-rest}
-use Rattle·std.proofs.shelf.Tests.{le-leb, and-from}
-use Rattle·evaluator.specs.Outcomes.{mapped}
-use Rattle·rules.specs.Outcomes.{_>>=_}
-use Rattle·rules.specs.Reading.{Counts, start, read-block, loops-pause}
-use Rattle·rules.specs.Text.{Block}
-use Rattle·rules.specs.Variables.{Variable}
-use Rattle·rules.specs.declared.faults.LoadFault.{LoadFault}
-use Rattle·heads.specs.Counting.{counted, kept}
-use Rattle·heads.specs.Readers.{bytes-between, left-of}
-use Rattle·heads.specs.declared.counts.Counts.{Counts as Kept}
-use Rattle·heads.specs.declared.reader.Reader.{Reader}
-use Rattle·heads.proofs.Binding.{bind-ok, ensure-ok, mapped-ok, mapped-err}
-use Rattle·reader·specs.Extents.{extent}
-use Rattle·reader·specs.Noting.{Block-noted}
-use Rattle·reader·specs.Summaries.{main-in, summary}
-use Rattle·reader·specs.Told.{after-block, sum-block}
-use Rattle·reader·specs.declared.extents.Extent.{Extent}
-use Rattle·reader·specs.declared.survey.Survey.{Survey}
-use Rattle·reader·proofs.Notes.{at-noted}
-use Rattle·reader·proofs.Ways.{at-block}
+use Rattle.std.proofs.Common.{◌≡◌, ℕ, zero, suc, ◌-◌, ◌<◌, ◌≤◌, min, List, [], ◌∷◌, length, get_or, take, drop, Ok, Err, Result, sym, refl, ap, ◌∙◌, subst, arith, w8, Fits}
+use Rattle.std.specs.List.{AllByRecursion as All}
+use Rattle.std.proofs.lemmas.List.{take_rest}
+use Rattle.std.proofs.lemmas.Bool.{le-leb, and_from}
+use Rattle.evaluator.specs.Outcomes.{mapped}
+use Rattle.rules.specs.Outcomes.{◌>>=◌}
+use Rattle.rules.specs.Reading.{Counts, start, read-block, loops-pause}
+use Rattle.rules.specs.Text.{Block}
+use Rattle.rules.specs.Variables.{Variable}
+use Rattle.rules.specs.declared.faults.LoadFault.{LoadFault}
+use Rattle.heads.specs.Counting.{counted, kept}
+use Rattle.heads.specs.Readers.{bytes-between, left-of}
+use Rattle.heads.specs.declared.counts.Counts.{Counts as Kept}
+use Rattle.heads.specs.declared.reader.Reader.{Reader}
+use Rattle.heads.proofs.Binding.{bind_ok, ensure-ok, mapped-ok, mapped-err}
+use Rattle.reader.specs.Extents.{extent}
+use Rattle.reader.specs.Noting.{Block-noted}
+use Rattle.reader.specs.Summaries.{main-in, summary}
+use Rattle.reader.specs.Told.{after_block, sum-block}
+use Rattle.reader.specs.declared.extents.Extent.{Extent}
+use Rattle.reader.specs.declared.survey.Survey.{Survey}
+use Rattle.reader.proofs.Notes.{at-noted}
+use Rattle.reader.proofs.Ways.{at_block}
 
 -- Elements that fit 8 bits are bytes.
-pub bytes-of : (l : List ℕ) → ((i : ℕ) → Fits w8 (getD l i 0)) → All (λ b. b < 256) l
-bytes-of [] h = tt
-bytes-of (b ∷ l) h = (let f = h 0 in omega arith, bytes-of l (λ i. h (suc i)))
+pub bytes_of : (l : List ℕ) → ((i : ℕ) → Fits w8 (get_or l i 0)) → All (λ b. b < 256) l
+bytes_of [] h = tt
+bytes_of (b ∷ l) h = (let f = h 0 in omega arith, bytes_of l (λ i. h (suc i)))
 
 -- So are those after some of them.
-pub bytes-after : (n : ℕ) (l : List ℕ) → All (λ b. b < 256) l → All (λ b. b < 256) (drop n l)
-bytes-after zero l h = h
-bytes-after (suc n) [] h = tt
-bytes-after (suc n) (b ∷ l) h = bytes-after n l (h .1)
+pub bytes_after : (n : ℕ) (l : List ℕ) → All (λ b. b < 256) l → All (λ b. b < 256) (drop n l)
+bytes_after zero l h = h
+bytes_after (suc n) [] h = tt
+bytes_after (suc n) (b ∷ l) h = bytes_after n l h.1
 
 module _ (ds : List Variable) (k : ℕ) (bs : List ℕ) (few : length bs ≤ 4096) (within : k ≤ length bs)
-    (r : Reader) (r-program : r .program .now ≡ bs) (r-end : r .end ≡ min (length bs) 4096) (r-place : r .place ≡ min k (r .end)) where
-  end-is : r .end ≡ length bs
-  end-is = omega arith
+    (r : Reader) (r-program : r.program.now ≡ bs) (r-end : r.end ≡ min (length bs) 4096) (r-place : r.place ≡ min k r.end) where
+  end_is : r.end ≡ length bs
+  end_is = omega arith
 
-  place-is : r .place ≡ k
-  place-is = let e = end-is in omega arith
+  place_is : r.place ≡ k
+  place_is = let e = end_is in omega arith
 
-  left-is : left-of r ≡ drop k bs
-  left-is = (λ i. bytes-between (r-program i) (place-is i) (end-is i)) ∙ take-rest bs k
+  left_is : left-of r ≡ drop k bs
+  left_is = (λ i. bytes-between (r-program i) (place_is i) (end_is i)) ∙ take_rest bs k
 
   -- The block, from the reader.
   abbrev from-reader : Result (Block (Unit {0})) LoadFault
-  from-reader = read-block ds 16 0 start (r .end) (left-of r)
+  from-reader = read-block ds 16 0 start r.end (left-of r)
 
   main-is : read-block ds 16 0 start (length bs) (drop k bs) ≡ main-in ds k bs
-  main-is = sym (bind-ok _ _ tt (ensure-ok _ (and-from _ _ (le-leb (length bs) 4096 few) (le-leb k (length bs) within))) refl)
+  main-is = sym (bind_ok _ _ tt (ensure-ok _ (and_from _ _ (le-leb (length bs) 4096 few) (le-leb k (length bs) within))) refl)
 
-  pub main-read : All (λ b. b < 256) bs → (x : Extent) (b : Kept) (S T : Survey) → S .pausing ≡ Ok tt → Ok (x, counted b) ≡ mapped (sum-block start) from-reader → Block-noted from-reader (left-of r) (r .place) 0 0 1 S T →
-      Ok (record { extent = x; counts = b; pausing = T .pausing }) ≡ mapped (summary k) (main-in ds k bs)
+  pub main-read : All (λ b. b < 256) bs → (x : Extent) (b : Kept) (S T : Survey) → S.pausing ≡ Ok tt → Ok (x, counted b) ≡ mapped (sum-block start) from-reader → Block-noted from-reader (left-of r) r.place 0 0 1 S T →
+      Ok (record { extent = x; counts = b; pausing = T.pausing }) ≡ mapped (summary k) (main-in ds k bs)
   main-read bytes x b S T clear so noted =
-      let so′ = at-block (sum-block start) ds 16 0 start (r .end) (length bs) (left-of r) (drop k bs) (Ok (x, counted b)) end-is left-is so in
-      let m = mapped-ok (sum-block start) (read-block ds 16 0 start (length bs) (drop k bs)) (x, counted b) so′ in
-      let N = at-noted ds 16 0 start (r .end) (length bs) (left-of r) (drop k bs) (r .place) k 0 0 1 S T end-is left-is place-is noted (m .0) (bytes-after k bs bytes) (m .1) .pausing in
-      let v : T .pausing ≡ loops-pause k 0 0 1 (m .0) = N ∙ ap (λ z. z >>= (λ _. loops-pause k 0 0 1 (m .0))) clear in
-      (λ i. Ok (record { extent = sym (m .2) i .0; counts = kept (sym (m .2) i .1); pausing = v i }))
-      ∙ ap (mapped (summary k)) (sym (m .1) ∙ main-is)
+      let so' = at_block (sum-block start) ds 16 0 start r.end (length bs) (left-of r) (drop k bs) (Ok (x, counted b)) end_is left_is so in
+      let m = mapped-ok (sum-block start) (read-block ds 16 0 start (length bs) (drop k bs)) (x, counted b) so' in
+      let N = (at-noted ds 16 0 start r.end (length bs) (left-of r) (drop k bs) r.place k 0 0 1 S T end_is left_is place_is noted m.0 (bytes_after k bs bytes) m.1).pausing in
+      let v : T.pausing ≡ loops-pause k 0 0 1 m.0 = N ∙ ap (λ z. z >>= (λ _. loops-pause k 0 0 1 m.0)) clear in
+      (λ i. Ok (record { extent = (sym m.2 i).0; counts = kept (sym m.2 i).1; pausing = v i }))
+      ∙ ap (mapped (summary k)) (sym m.1 ∙ main-is)
 
   pub main-stopped : (g : LoadFault) → Err g ≡ mapped (sum-block start) from-reader → Err g ≡ mapped (summary k) (main-in ds k bs)
   main-stopped g so =
-      let so′ = at-block (sum-block start) ds 16 0 start (r .end) (length bs) (left-of r) (drop k bs) (Err g) end-is left-is so in
-      ap (mapped (summary k)) (sym (mapped-err (sum-block start) (read-block ds 16 0 start (length bs) (drop k bs)) g so′) ∙ main-is)
+      let so' = at_block (sum-block start) ds 16 0 start r.end (length bs) (left-of r) (drop k bs) (Err g) end_is left_is so in
+      ap (mapped (summary k)) (sym (mapped-err (sum-block start) (read-block ds 16 0 start (length bs) (drop k bs)) g so') ∙ main-is)

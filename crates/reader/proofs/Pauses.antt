@@ -1,25 +1,17 @@
 -- A statement's pausing loops, by its blocks.
-use Prim.Native.Nat.{ℕ, _+_, _-_, _*_}
-use mathlib.Core.Bool.{Bool, true, false, _&&_, not, cond}
-use mathlib.Core.List.{List}
-use mathlib.Core.Path.{_≡_, refl, sym, ap, _∙_}
-use native.Mathlib.Omega.{arith}
-use lib.Dec.{eqb}
-use lib.ListN.{length}
-use Rattle·std.specs.declared.result.Result.{Result}
-use Rattle·std.specs.declared.result.Result.the-variants.{Ok, Err}
-use Rattle·rules.specs.Encoding.{statement-bytes, block-bytes}
-use Rattle·rules.specs.Forms.{has-block, has-second-block, par-count, build}
-use Rattle·rules.specs.Lengths.{must-pause}
-use Rattle·rules.specs.Outcomes.{_>>=_, ensure}
-use Rattle·rules.specs.Reading.{block-thread, loops-pause, statement-pauses}
-use Rattle·rules.specs.Text.{Expression, Stmt, Block, end, count, arms}
-use Rattle·rules.specs.declared.faults.LoadFault.{LoadFault}
-use Rattle·rules.specs.declared.faults.LoadFault.the-variants.{Statement}
-use Rattle·rules.specs.declared.faults.StatementFault.the-variants.{MayNotPause}
-use Rattle·rules.specs.declared.program.Form.{Form}
-use Rattle·rules.specs.declared.program.Form.the-variants as Form
-use Rattle·reader·specs.Noting.{judged}
+use Rattle.std.proofs.Common.{◌≡◌, ℕ, ◌+◌, ◌-◌, ◌*◌, Bool, true, false, cond, not, ◌&&◌, eqb, List, length, Ok, Err, Result, sym, refl, ap, ◌∙◌, arith}
+use Rattle.rules.specs.Encoding.{statement-bytes, block-bytes}
+use Rattle.rules.specs.Forms.{has_block, has-second-block, par-count, build}
+use Rattle.rules.specs.Lengths.{must-pause}
+use Rattle.rules.specs.Outcomes.{◌>>=◌, ensure}
+use Rattle.rules.specs.Reading.{block-thread, loops-pause, statement-pauses}
+use Rattle.rules.specs.Text.{Expression, Stmt, Block, end, count, arms}
+use Rattle.rules.specs.declared.faults.LoadFault.{LoadFault}
+use Rattle.rules.specs.declared.faults.LoadFault.TheVariants.{Statement}
+use Rattle.rules.specs.declared.faults.StatementFault.TheVariants.{MayNotPause}
+use Rattle.rules.specs.declared.program.Form.{Form}
+use Rattle.rules.specs.declared.program.Form.TheVariants as Form
+use Rattle.reader.specs.Noting.{judged}
 
 -- Verdicts.
 abbrev V : Type 0
@@ -48,17 +40,17 @@ module _ (o : ℕ) (e : Expression) (X Y : Block (Unit {0})) (p n t u p₁ p₂ 
       ∙ unit-right (r >>= (λ _. Ok tt))
 
   -- With one block, that block.
-  one : Y ≡ end → (q t₁ t′ u₁ u′ t₂ u₂ : ℕ) → p₁ ≡ q → t₁ ≡ t′ → u₁ ≡ u′ → in-turn t₁ u₁ t₂ u₂ ≡ (r >>= (λ _. loops-pause q (n + 1) t′ u′ X))
-  one g q t₁ t′ u₁ u′ t₂ u₂ pe te ue =
+  one : Y ≡ end → (q t₁ t' u₁ u' t₂ u₂ : ℕ) → p₁ ≡ q → t₁ ≡ t' → u₁ ≡ u' → in-turn t₁ u₁ t₂ u₂ ≡ (r >>= (λ _. loops-pause q (n + 1) t' u' X))
+  one g q t₁ t' u₁ u' t₂ u₂ pe te ue =
       (λ i. (r >>= (λ _. loops-pause (pe i) (n + 1) (te i) (ue i) X)) >>= (λ _. loops-pause p₂ (n + 1 + count X) t₂ u₂ (g i)))
-      ∙ unit-right (r >>= (λ _. loops-pause q (n + 1) t′ u′ X))
+      ∙ unit-right (r >>= (λ _. loops-pause q (n + 1) t' u' X))
 
   -- With two, the first before the second.
-  two : (q₁ q₂ t₁ t₁′ u₁ u₁′ t₂ t₂′ u₂ u₂′ : ℕ) → p₁ ≡ q₁ → p₂ ≡ q₂ → t₁ ≡ t₁′ → u₁ ≡ u₁′ → t₂ ≡ t₂′ → u₂ ≡ u₂′ →
-      in-turn t₁ u₁ t₂ u₂ ≡ (r >>= (λ _. loops-pause q₁ (n + 1) t₁′ u₁′ X >>= (λ _. loops-pause q₂ (n + 1 + count X) t₂′ u₂′ Y)))
-  two q₁ q₂ t₁ t₁′ u₁ u₁′ t₂ t₂′ u₂ u₂′ a b c d f g =
+  two : (q₁ q₂ t₁ t₁' u₁ u₁' t₂ t₂' u₂ u₂' : ℕ) → p₁ ≡ q₁ → p₂ ≡ q₂ → t₁ ≡ t₁' → u₁ ≡ u₁' → t₂ ≡ t₂' → u₂ ≡ u₂' →
+      in-turn t₁ u₁ t₂ u₂ ≡ (r >>= (λ _. loops-pause q₁ (n + 1) t₁' u₁' X >>= (λ _. loops-pause q₂ (n + 1 + count X) t₂' u₂' Y)))
+  two q₁ q₂ t₁ t₁' u₁ u₁' t₂ t₂' u₂ u₂' a b c d f g =
       (λ i. (r >>= (λ _. loops-pause (a i) (n + 1) (c i) (d i) X)) >>= (λ _. loops-pause (b i) (n + 1 + count X) (f i) (g i) Y))
-      ∙ assoc r (loops-pause q₁ (n + 1) t₁′ u₁′ X) (loops-pause q₂ (n + 1 + count X) t₂′ u₂′ Y)
+      ∙ assoc r (loops-pause q₁ (n + 1) t₁' u₁' X) (loops-pause q₂ (n + 1 + count X) t₂' u₂' Y)
 
   -- An idle loop is noted itself; another by its block.
   loop-so : (b : Bool) (w z : V) → w ≡ (r >>= (λ _. z)) → cond b (r >>= (λ _. Err own)) w ≡ (r >>= (λ _. ensure (not b) own >>= (λ _. z)))
@@ -66,7 +58,7 @@ module _ (o : ℕ) (e : Expression) (X Y : Block (Unit {0})) (p n t u p₁ p₂ 
   loop-so false w z h = h
 
   -- The statement of a form, whose first block begins at p₁ and whose second at p₂.
-  pub noted-by-form : (k : Form) → (has-block k ≡ false → X ≡ end) → (has-second-block k ≡ false → Y ≡ end) →
+  pub noted-by-form : (k : Form) → (has_block k ≡ false → X ≡ end) → (has-second-block k ≡ false → Y ≡ end) →
       p₁ ≡ p + (length (statement-bytes (build k o e X Y)) - (length (block-bytes X) + length (block-bytes Y))) →
       p₂ ≡ p + (length (statement-bytes (build k o e X Y)) - length (block-bytes Y)) →
       judged r (in-turn (block-thread k t (u + par-count k)) (u + par-count k) (block-thread k t (u + par-count k + arms X + par-count k)) (u + par-count k + arms X + par-count k)) k o (must-pause X) own

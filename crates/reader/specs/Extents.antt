@@ -1,12 +1,10 @@
 -- Tick length and must-pause of parts of the text in 32 bits: each length is exact up to 2 ^ 32 - 1, and stays there.
-use Prim.Native.Nat.{ℕ, _+_, _-_, _*_, _^_, min, max}
-use mathlib.Core.Bool.{true, false, cond, _&&_, _||_}
-use lib.Dec.{eqb}
-use Rattle·rules.specs.Lengths.{length-of, block-length, pauses, must-pause}
-use Rattle·rules.specs.Text.{Stmt, Block}
-use Rattle·rules.specs.declared.program.Form.{Form}
-use Rattle·rules.specs.declared.program.Form.the-variants as Form
-use Rattle·reader·specs.declared.extents.Extent.{Extent}
+use Rattle.std.specs.Prelude.{ℕ, ◌+◌, ◌-◌, ◌*◌, ◌^◌, min, max, true, false, cond, ◌&&◌, ◌||◌, ◌==◌}
+use Rattle.rules.specs.Lengths.{length-of, block-length, pauses, must-pause}
+use Rattle.rules.specs.Text.{Stmt, Block}
+use Rattle.rules.specs.declared.program.Form.{Form}
+use Rattle.rules.specs.declared.program.Form.TheVariants as Form
+use Rattle.reader.specs.declared.extents.Extent.{Extent}
 
 -- A number, or the largest of 32 bits.
 abbrev pub capped : ℕ → ℕ
@@ -22,23 +20,23 @@ extent B = record { length = capped (block-length B); pauses = must-pause B }
 
 -- One part and then another: lengths add up, and one that pauses is enough.
 abbrev pub joined : Extent → Extent → Extent
-joined x y = record { length = capped (x .length + y .length); pauses = x .pauses || y .pauses }
+joined x y = record { length = capped (x.length + y.length); pauses = x.pauses || y.pauses }
 
 -- An if: 1 + the longer block; it pauses when both blocks do.
 abbrev pub either : Extent → Extent → Extent
-either x y = record { length = capped (1 + max (x .length) (y .length)); pauses = x .pauses && y .pauses }
+either x y = record { length = capped (1 + max x.length y.length); pauses = x.pauses && y.pauses }
 
 -- A loop of bound n: n + 1 tests and n passes; of bound 0: one test and two passes. It does not count as pausing.
 abbrev pub looped : ℕ → Extent → Extent
-looped n x = record { length = cond (eqb n 0) (capped (1 + capped (2 * x .length))) (capped ((n + 1) + capped (n * x .length))); pauses = false }
+looped n x = record { length = cond (n == 0) (capped (1 + capped (2 * x.length))) (capped ((n + 1) + capped (n * x.length))); pauses = false }
 
 -- A par: 3 + both arms; it pauses when either arm does.
 abbrev pub paired : Extent → Extent → Extent
-paired x y = record { length = capped (capped (3 + x .length) + y .length); pauses = x .pauses || y .pauses }
+paired x y = record { length = capped (capped (3 + x.length) + y.length); pauses = x.pauses || y.pauses }
 
 -- An abort: 1 + its block. It does not count as pausing.
 abbrev pub aborted : Extent → Extent
-aborted x = record { length = capped (1 + x .length); pauses = false }
+aborted x = record { length = capped (1 + x.length); pauses = false }
 
 -- The statement of a form, with its byte and the extents of its blocks as far as it has them.
 abbrev pub built : Form → ℕ → (x y : Extent) → Extent

@@ -1,14 +1,11 @@
 -- What a statement does, by its form and its parts.
-use Prim.Native.Nat.{ℕ, zero, suc, _%_}
-use lib.Dec.{eqb, leb}
-use Rattle·std.specs.declared.option.Option.{Option}
-use Rattle·std.specs.declared.option.Option.the-variants.{Some, None}
-use Rattle·rules.specs.declared.program.Form.{Form}
-use Rattle·rules.specs.declared.program.Form.the-variants as Form
-use Rattle·table.specs.declared.rows.Arm.{Arm}
-use Rattle·table.specs.declared.rows.Code.{Code}
-use Rattle·table.specs.declared.rows.Task.{Task}
-use Rattle·table.specs.declared.rows.Task.the-variants.{Nothing, Set, Pause, If, Loop, Par, Abort}
+use Rattle.std.specs.Prelude.{ℕ, zero, suc, ◌%◌, Some, None, Option, ◌==◌, nat_le}
+use Rattle.rules.specs.declared.program.Form.{Form}
+use Rattle.rules.specs.declared.program.Form.TheVariants as Form
+use Rattle.table.specs.declared.rows.Arm.{Arm}
+use Rattle.table.specs.declared.rows.Code.{Code}
+use Rattle.table.specs.declared.rows.Task.{Task}
+use Rattle.table.specs.declared.rows.Task.TheVariants.{Nothing, Set, Pause, If, Loop, Par, Abort}
 
 -- A number, if there are bytes for what has it.
 abbrev pub number-if : (bytes number : ℕ) → Option ℕ
@@ -20,7 +17,7 @@ abbrev pub built-task : Form → (byte : ℕ) → Code → (first second : Arm) 
 built-task Form.Nothing o c x y = Nothing
 built-task Form.Set o c x y = Set o c
 built-task Form.Pause o c x y = Pause
-built-task Form.If o c x y = If c (x .first) (y .first)
-built-task Form.Loop o c x y = Loop o c (x .first)
+built-task Form.If o c x y = If c x.first y.first
+built-task Form.Loop o c x y = Loop o c x.first
 built-task Form.Par o c x y = Par x y
-built-task Form.Abort o c x y = Abort (eqb (o % 2) 1) (leb 2 o) c (x .first)
+built-task Form.Abort o c x y = Abort (o % 2 == 1) (nat_le 2 o) c x.first

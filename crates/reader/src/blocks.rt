@@ -1,35 +1,29 @@
 //! Reads blocks by their statements, and statements by their blocks.
-ghost use mathlib.Core.Path.{_≡_};
-ghost use Prim.Native.Nat.{suc, _≤_};
-ghost use Rattle·std.specs.Vec.{made};
-ghost use Rattle·evaluator.specs.Outcomes.{mapped};
-ghost use Rattle·rules.specs.Reading.{read-block as block-read, read-statement as statement-read};
-ghost use Rattle·declarations.specs.Declaring.{variables-of};
-ghost use Rattle·heads.specs.Counting.{counted, Few};
-ghost use Rattle·heads.specs.Readers.{left-of, statement-place, Same-block};
-ghost use Rattle·reader·specs.Noting.{Block-noted, Statement-noted};
-ghost use Rattle·reader·specs.Told.{with-counts, with-counts-and-left, sum-block, sum-statement, Read-through};
+ghost use Rattle.std.specs.Prelude.{◌≡◌, suc, ◌≤◌, OnOk};
+ghost use Rattle.evaluator.specs.Outcomes.{mapped};
+ghost use Rattle.rules.specs.Reading.{read-block as Block-read, read-statement as statement-read};
+ghost use Rattle.declarations.specs.Declaring.{variables-of};
+ghost use Rattle.heads.specs.Counting.{counted, Few};
+ghost use Rattle.heads.specs.Readers.{left-of, statement-place, Same-block};
+ghost use Rattle.reader.specs.Noting.{Block-noted, Statement-noted};
+ghost use Rattle.reader.specs.Told.{with-counts, with-counts-and-left, sum-block, sum-statement, Read-through};
+
 use crate::extents;
 use crate::extents::Extent;
 use crate::guard::Deeper;
-use crate::pausing::judged;
-use crate::pausing::may_not_pause;
+use crate::pausing::{judged, may_not_pause};
 use crate::survey::Survey;
-use crate::tasks::arm_of;
-use crate::tasks::number_if;
-use crate::tasks::task_of;
+use crate::tasks::{arm_of, number_if, task_of};
 use declarations::declaration::Declaration;
-use heads::faults::LoadFromSited;
 use heads::forms::par_count;
 use heads::heads::read_head;
 use heads::reader::Reader;
-use heads::scope::Scope;
-use heads::scope::block_thread;
+use heads::scope::{Scope, block_thread};
 use rules::faults::LoadFault;
-use table::rows::Arm;
-use table::rows::Row;
+use table::rows::{Arm, Row};
 
 /// A block of a thread: all that the reader has left.
+#[cycle(read_block_read_statement_read_statements)]
 pub(crate) fn read_block(
     reader: &mut Reader<'_>,
     thread: usize,
@@ -38,13 +32,13 @@ pub(crate) fn read_block(
     survey: &mut Survey,
     declarations: &[Declaration],
 ) -> Result<Extent, LoadFault>
-    requires { ⌜ Few (now survey .counts) ⌝ ∗ ⌜ thread ≤ 31 ⌝ }
-    ensures answer { λ r. ⌜ mapped (with-counts (counted (now (survey .exit) .counts))) r ≡ mapped (sum-block (counted (now (survey .entry) .counts))) (block-read (variables-of (now (declarations .entry))) (now (scope .entry) .nesting) thread (counted (now (survey .entry) .counts)) (now (reader .entry) .end) (left-of (now (reader .entry)))) ⌝ }
-    ensures noted { λ r. ⌜ made r (λ _. Block-noted (block-read (variables-of (now (declarations .entry))) (now (scope .entry) .nesting) thread (counted (now (survey .entry) .counts)) (now (reader .entry) .end) (left-of (now (reader .entry)))) (left-of (now (reader .entry))) inside (now (reader .entry) .place) (now (survey .entry) .counts .statements) thread (now (survey .entry) .counts .threads) (now (survey .entry)) (now (survey .exit))) ⌝ }
-    ensures few { λ r. ⌜ made r (λ _. Few (now (survey .exit) .counts)) ⌝ }
-    ensures through { λ r. ⌜ made r (λ _. Read-through (now (reader .entry)) (now (reader .exit))) ⌝ }
-    ensures thread { λ _. ⌜ now (scope .exit) .thread ≡ now (scope .entry) .thread ⌝ }
-    ensures nesting { λ _. ⌜ now (scope .exit) .nesting ≡ now (scope .entry) .nesting ⌝ }
+    requires { (Few survey.old.counts) × (thread ≤ 31) }
+    ensures answer { mapped (with-counts (counted survey.new.counts)) result ≡ mapped (sum-block (counted survey.old.counts)) (Block-read (variables-of declarations.now) scope.old.nesting thread (counted survey.old.counts) reader.old.end (left-of reader.old)) }
+    ensures noted { OnOk result (Block-noted (Block-read (variables-of declarations.now) scope.old.nesting thread (counted survey.old.counts) reader.old.end (left-of reader.old)) (left-of reader.old) inside reader.old.place survey.old.counts.statements thread survey.old.counts.threads survey.old survey.new) }
+    ensures few { OnOk result (Few survey.new.counts) }
+    ensures through { OnOk result (Read-through reader.old reader.new) }
+    ensures thread { scope.new.thread ≡ scope.old.thread }
+    ensures nesting { scope.new.nesting ≡ scope.old.nesting }
 {
     let outer = scope.thread;
     let nesting = scope.nesting;
@@ -67,6 +61,7 @@ pub(crate) fn read_block(
 }
 
 // Statements of the scope's thread, to the end of their block.
+#[cycle(read_block_read_statement_read_statements)]
 fn read_statements(
     reader: &mut Reader<'_>,
     inside: Option<u16>,
@@ -74,13 +69,13 @@ fn read_statements(
     survey: &mut Survey,
     declarations: &[Declaration],
 ) -> Result<Extent, LoadFault>
-    requires { ⌜ Few (now survey .counts) ⌝ ∗ ⌜ now scope .thread ≤ 31 ⌝ }
-    ensures answer { λ r. ⌜ mapped (with-counts (counted (now (survey .exit) .counts))) r ≡ mapped (sum-block (counted (now (survey .entry) .counts))) (block-read (variables-of (now (declarations .entry))) (suc (now (scope .entry) .nesting)) (now (scope .entry) .thread) (counted (now (survey .entry) .counts)) (now (reader .entry) .end) (left-of (now (reader .entry)))) ⌝ }
-    ensures noted { λ r. ⌜ made r (λ _. Block-noted (block-read (variables-of (now (declarations .entry))) (suc (now (scope .entry) .nesting)) (now (scope .entry) .thread) (counted (now (survey .entry) .counts)) (now (reader .entry) .end) (left-of (now (reader .entry)))) (left-of (now (reader .entry))) inside (now (reader .entry) .place) (now (survey .entry) .counts .statements) (now (scope .entry) .thread) (now (survey .entry) .counts .threads) (now (survey .entry)) (now (survey .exit))) ⌝ }
-    ensures few { λ r. ⌜ made r (λ _. Few (now (survey .exit) .counts)) ⌝ }
-    ensures through { λ r. ⌜ made r (λ _. Read-through (now (reader .entry)) (now (reader .exit))) ⌝ }
-    ensures thread { λ _. ⌜ now (scope .exit) .thread ≡ now (scope .entry) .thread ⌝ }
-    ensures nesting { λ _. ⌜ now (scope .exit) .nesting ≡ now (scope .entry) .nesting ⌝ }
+    requires { (Few survey.old.counts) × (scope.old.thread ≤ 31) }
+    ensures answer { mapped (with-counts (counted survey.new.counts)) result ≡ mapped (sum-block (counted survey.old.counts)) (Block-read (variables-of declarations.now) (suc scope.old.nesting) scope.old.thread (counted survey.old.counts) reader.old.end (left-of reader.old)) }
+    ensures noted { OnOk result (Block-noted (Block-read (variables-of declarations.now) (suc scope.old.nesting) scope.old.thread (counted survey.old.counts) reader.old.end (left-of reader.old)) (left-of reader.old) inside reader.old.place survey.old.counts.statements scope.old.thread survey.old.counts.threads survey.old survey.new) }
+    ensures few { OnOk result (Few survey.new.counts) }
+    ensures through { OnOk result (Read-through reader.old reader.new) }
+    ensures thread { scope.new.thread ≡ scope.old.thread }
+    ensures nesting { scope.new.nesting ≡ scope.old.nesting }
 {
     let mut extent = Extent {
         length: 0,
@@ -94,6 +89,7 @@ fn read_statements(
 }
 
 // The statement whose command was just taken.
+#[cycle(read_block_read_statement_read_statements)]
 fn read_statement(
     command: u8,
     reader: &mut Reader<'_>,
@@ -102,13 +98,13 @@ fn read_statement(
     survey: &mut Survey,
     declarations: &[Declaration],
 ) -> Result<Extent, LoadFault>
-    requires { ⌜ Few (now survey .counts) ⌝ ∗ ⌜ now scope .thread ≤ 31 ⌝ }
-    ensures answer { λ r. ⌜ mapped (with-counts-and-left (counted (now (survey .exit) .counts)) (left-of (now (reader .exit)))) r ≡ mapped (sum-statement (counted (now (survey .entry) .counts))) (statement-read (variables-of (now (declarations .entry))) (now (scope .entry) .nesting) (block-read (variables-of (now (declarations .entry))) (now (scope .entry) .nesting)) (now (scope .entry) .thread) (counted (now (survey .entry) .counts)) (now (reader .entry) .end) command (left-of (now (reader .entry)))) ⌝ }
-    ensures few { λ r. ⌜ made r (λ _. Few (now (survey .exit) .counts)) ⌝ }
-    ensures noted { λ r. ⌜ made r (λ _. Statement-noted (statement-read (variables-of (now (declarations .entry))) (now (scope .entry) .nesting) (block-read (variables-of (now (declarations .entry))) (now (scope .entry) .nesting)) (now (scope .entry) .thread) (counted (now (survey .entry) .counts)) (now (reader .entry) .end) command (left-of (now (reader .entry)))) (left-of (now (reader .entry))) inside (now (reader .entry) .end) (statement-place (now (reader .entry))) (now (survey .entry) .counts .statements) (now (scope .entry) .thread) (now (survey .entry) .counts .threads) (now (survey .entry)) (now (survey .exit))) ⌝ }
-    ensures onward { λ r. ⌜ made r (λ _. Same-block (now (reader .entry)) (now (reader .exit))) ⌝ }
-    ensures thread { λ _. ⌜ now (scope .exit) .thread ≡ now (scope .entry) .thread ⌝ }
-    ensures nesting { λ _. ⌜ now (scope .exit) .nesting ≡ now (scope .entry) .nesting ⌝ }
+    requires { (Few survey.old.counts) × (scope.old.thread ≤ 31) }
+    ensures answer { mapped (with-counts-and-left (counted survey.new.counts) (left-of reader.new)) result ≡ mapped (sum-statement (counted survey.old.counts)) (statement-read (variables-of declarations.now) scope.old.nesting (Block-read (variables-of declarations.now) scope.old.nesting) scope.old.thread (counted survey.old.counts) reader.old.end command (left-of reader.old)) }
+    ensures few { OnOk result (Few survey.new.counts) }
+    ensures noted { OnOk result (Statement-noted (statement-read (variables-of declarations.now) scope.old.nesting (Block-read (variables-of declarations.now) scope.old.nesting) scope.old.thread (counted survey.old.counts) reader.old.end command (left-of reader.old)) (left-of reader.old) inside reader.old.end (statement-place reader.old) survey.old.counts.statements scope.old.thread survey.old.counts.threads survey.old survey.new) }
+    ensures onward { OnOk result (Same-block reader.old reader.new) }
+    ensures thread { scope.new.thread ≡ scope.old.thread }
+    ensures nesting { scope.new.nesting ≡ scope.old.nesting }
 {
     let before = survey.pausing;
     let place = reader.statement();

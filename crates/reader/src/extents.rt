@@ -1,6 +1,7 @@
 //! How long a part of the text takes at most in a tick, and whether it must pause. Lengths stop at the largest u32.
-ghost use mathlib.Core.Path.{_≡_};
-ghost use Rattle·reader·specs.Extents.{joined as joined-is, either as either-is, looped as looped-is, paired as paired-is, aborted as aborted-is, built as built-is};
+ghost use Rattle.std.specs.Prelude.{◌≡◌};
+ghost use Rattle.reader.specs.Extents.{joined as joined_is, either as Either-is, looped as Looped-is, paired as paired_is, aborted as aborted-is, built as built-is};
+
 use rules::program::Form;
 
 /// A tick length, and whether each tick in it pauses.
@@ -12,7 +13,7 @@ pub struct Extent {
 
 /// One part and then another.
 pub fn joined(x: Extent, y: Extent) -> Extent
-    ensures { λ r. ⌜ r ≡ joined-is x y ⌝ }
+    ensures { result ≡ joined_is x y }
 {
     Extent {
         length: x.length.saturating_add(y.length),
@@ -22,7 +23,7 @@ pub fn joined(x: Extent, y: Extent) -> Extent
 
 /// An if of two blocks: one step, and the longer of them.
 pub fn either(x: Extent, y: Extent) -> Extent
-    ensures { λ r. ⌜ r ≡ either-is x y ⌝ }
+    ensures { result ≡ Either-is x y }
 {
     Extent {
         length: 1u32.saturating_add(x.length.max(y.length)),
@@ -32,7 +33,7 @@ pub fn either(x: Extent, y: Extent) -> Extent
 
 /// A loop of a bound: a step for each test, and its passes; a pausing loop has one test and two passes.
 pub fn looped(bound: u8, x: Extent) -> Extent
-    ensures { λ r. ⌜ r ≡ looped-is bound x ⌝ }
+    ensures { result ≡ Looped-is bound x }
 {
     let length = if bound == 0 {
         1u32.saturating_add(2u32.saturating_mul(x.length))
@@ -47,7 +48,7 @@ pub fn looped(bound: u8, x: Extent) -> Extent
 
 /// A par of two arms: three steps, and both.
 pub fn paired(x: Extent, y: Extent) -> Extent
-    ensures { λ r. ⌜ r ≡ paired-is x y ⌝ }
+    ensures { result ≡ paired_is x y }
 {
     let length = 3u32.saturating_add(x.length).saturating_add(y.length);
     Extent {
@@ -58,7 +59,7 @@ pub fn paired(x: Extent, y: Extent) -> Extent
 
 /// An abort of a block: one step, and the block.
 pub fn aborted(x: Extent) -> Extent
-    ensures { λ r. ⌜ r ≡ aborted-is x ⌝ }
+    ensures { result ≡ aborted-is x }
 {
     Extent {
         length: 1u32.saturating_add(x.length),
@@ -68,7 +69,7 @@ pub fn aborted(x: Extent) -> Extent
 
 /// The statement of a form, with its byte and the extents of its blocks as far as it has them.
 pub fn built(form: Form, byte: u8, first: Extent, second: Extent) -> Extent
-    ensures { λ r. ⌜ r ≡ built-is form byte first second ⌝ }
+    ensures { result ≡ built-is form byte first second }
 {
     match form {
         Form::Nothing | Form::Set => Extent {

@@ -1,5 +1,6 @@
 //! Restores the scope after a block.
-ghost use mathlib.Core.Path.{_≡_};
+ghost use Rattle.std.specs.Prelude.{◌≡◌};
+
 use heads::scope::Scope;
 
 /// Lends out a scope for a block. When it is dropped, thread and nesting are as they were before the block.
@@ -11,8 +12,8 @@ pub struct Deeper<'a> {
 
 impl Drop for Deeper<'_> {
     fn drop(self)
-        ensures thread { λ _. ⌜ now (self .exit .0) .thread ≡ self .entry .thread ⌝ }
-        ensures nesting { λ _. ⌜ now (self .exit .0) .nesting ≡ self .entry .nesting ⌝ }
+        ensures thread { self.exit.0.now.thread ≡ self.entry.thread }
+        ensures nesting { self.exit.0.now.nesting ≡ self.entry.nesting }
     {
         self.scope.thread = self.thread;
         self.scope.nesting = self.nesting;

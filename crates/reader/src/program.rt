@@ -1,16 +1,15 @@
 //! Reads all statements of a program.
-ghost use mathlib.Core.Path.{_≡_};
-ghost use Rattle·evaluator.specs.Outcomes.{mapped};
-ghost use Rattle·declarations.specs.Declaring.{variables-of};
-ghost use Rattle·reader·specs.Summaries.{main-in, summary};
+ghost use Rattle.std.specs.Prelude.{◌≡◌};
+ghost use Rattle.evaluator.specs.Outcomes.{mapped};
+ghost use Rattle.declarations.specs.Declaring.{variables-of};
+ghost use Rattle.reader.specs.Summaries.{main-in, summary};
+
 use crate::blocks::read_block;
 use crate::extents::Extent;
 use crate::survey::Survey;
 use declarations::declaration::Declaration;
-use heads::counts::Counts;
-use heads::counts::MOST_NESTED;
-use heads::reader::MOST_BYTES;
-use heads::reader::Reader;
+use heads::counts::{Counts, MOST_NESTED};
+use heads::reader::{MOST_BYTES, Reader};
 use heads::scope::Scope;
 use rules::faults::LoadFault;
 
@@ -28,7 +27,7 @@ pub fn read_main(
     from: usize,
     declarations: &[Declaration],
 ) -> Result<Summary, LoadFault>
-    ensures { λ r. ⌜ r ≡ mapped (summary from) (main-in (variables-of (now (declarations .entry))) from (now (program .entry))) ⌝ }
+    ensures { result ≡ mapped (summary from) (main-in (variables-of declarations.now) from program.now) }
 {
     if program.len() > MOST_BYTES || from > program.len() {
         return Err(LoadFault::BadLength);

@@ -1,6 +1,6 @@
 //! What is found out of a text while it is read.
-ghost use mathlib.Core.Path.{_≡_};
-ghost use lib.ListN.{length};
+ghost use Rattle.std.specs.Prelude.{◌≡◌, length};
+
 use heads::counts::Counts;
 use rules::faults::LoadFault;
 use table::rows::Row;

@@ -1,19 +1,16 @@
 //! Makes the rows of statements.
-ghost use mathlib.Core.Path.{_≡_};
-ghost use Prim.Native.Nat.{_^_, _<_, _≤_};
-ghost use lib.ListN.{length};
-ghost use Rattle·reader·specs.Tasks.{number-if, built-task};
+ghost use Rattle.std.specs.Prelude.{◌≡◌, ◌^◌, ◌<◌, ◌≤◌, length};
+ghost use Rattle.reader.specs.Tasks.{number-if, built-task};
+
 use heads::counts::Counts;
 use heads::heads::Head;
 use rules::program::Form;
-use table::rows::Arm;
-use table::rows::Code;
-use table::rows::Task;
+use table::rows::{Arm, Code, Task};
 
 /// A statement's number, if there are bytes for one.
 pub(crate) fn number_if(bytes: usize, number: usize) -> Option<u16>
-    requires { ⌜ number < 2 ^ 16 ⌝ }
-    ensures { λ r. ⌜ r ≡ number-if bytes number ⌝ }
+    requires { number < 2 ^ 16 }
+    ensures { result ≡ number-if bytes number }
 {
     if bytes == 0 {
         None
@@ -24,8 +21,8 @@ pub(crate) fn number_if(bytes: usize, number: usize) -> Option<u16>
 
 /// The arm that takes the next thread number, and begins with the next statement if it has bytes.
 pub(crate) fn arm_of(counts: Counts, bytes: usize) -> Arm
-    requires { ⌜ counts .statements < 2 ^ 16 ⌝ ∗ ⌜ counts .threads < 2 ^ 8 ⌝ }
-    ensures { λ r. ⌜ r ≡ record { thread = counts .threads; first = number-if bytes (counts .statements) } ⌝ }
+    requires { (counts.statements < 2 ^ 16) × (counts.threads < 2 ^ 8) }
+    ensures { result ≡ record { thread = counts.threads; first = number-if bytes counts.statements } }
 {
     Arm {
         thread: counts.threads as u8,
@@ -35,8 +32,8 @@ pub(crate) fn arm_of(counts: Counts, bytes: usize) -> Arm
 
 /// What the statement of a head does, with the numbers of the first statements of its blocks and the threads of its arms.
 pub(crate) fn task_of(head: &Head<'_>, first: Arm, second: Arm) -> Task
-    requires { ⌜ now head .«code_place» < 2 ^ 16 ⌝ ∗ ⌜ length (now head .code .now) < 2 ^ 8 ⌝ }
-    ensures { λ r. ⌜ r ≡ built-task (now (head .entry) .form) (now (head .entry) .byte) (record { from = now (head .entry) .«code_place»; length = length (now (head .entry) .code .now) }) first second ⌝ }
+    requires { (head.now.code_place < 2 ^ 16) × (length head.now.code.now < 2 ^ 8) }
+    ensures { result ≡ built-task head.now.form head.now.byte (record { from = head.now.code_place; length = length head.now.code.now }) first second }
 {
     let code = Code {
         from: head.code_place as u16,

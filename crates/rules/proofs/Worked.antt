@@ -1,6 +1,6 @@
 -- The worked numbers, by computing.
-use mathlib.Core.Path.{refl}
-use Rattle·rules·specs.Worked.{Worked-numbers}
+use Rattle.std.proofs.Common.{refl}
+use Rattle.rules.specs.Worked.{Worked-numbers}
 
 pub worked-numbers : Worked-numbers
 worked-numbers = record {
@@ -14,7 +14,7 @@ worked-numbers = record {
   longest-accepted = refl;
   longest-read = refl;
   longest-steps = refl;
-  too-long = refl;
+  too_long = refl;
   too-long-refused = refl;
   all-sum = refl;
   past-arm = refl;

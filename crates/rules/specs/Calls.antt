@@ -1,30 +1,23 @@
 -- Calls: from a machine and a call to an answer and a machine. A refused call changes nothing.
-use Prim.Native.Nat.{ℕ, zero, suc, _+_}
-use mathlib.Core.Bool.{Bool, true, false}
-use mathlib.Core.List.{List, [], _∷_, _++_}
-use lib.Dec.{eqb, leb}
-use lib.IntN.{ℤ}
-use lib.ListN.{length, drop}
-use Rattle·std.specs.declared.result.Result.{Result}
-use Rattle·std.specs.declared.result.Result.the-variants.{Ok, Err}
-use Rattle·arithmetic.specs.Meaning.{Meaning}
-use Rattle·evaluator.specs.Evaluating.{all-places, variable-places}
-use Rattle·rules·specs.Memory.{held-places}
-use Rattle·rules·specs.Numbering.{text-of}
-use Rattle·rules·specs.Opening.{opening}
-use Rattle·rules·specs.Reading.{read}
-use Rattle·rules·specs.Report.{Rate, rates, reported-in, report-size}
-use Rattle·rules·specs.Scopes.{is-input}
-use Rattle·rules·specs.Stepping.{ready?, step}
-use Rattle·rules·specs.Text.{Program}
-use Rattle·rules·specs.Threads.{Config, closable, is-ended}
-use Rattle·rules·specs.Ticks.{closing, finishing, loaded}
-use Rattle·rules·specs.declared.answers.Answer.{Answer}
-use Rattle·rules·specs.declared.answers.Answer.the-variants.{Accepted, Opened, Steps, Reported, Refused}
-use Rattle·rules·specs.declared.faults.LoadFault.{LoadFault}
-use Rattle·rules·specs.Variables.{Variable}
-use Rattle·rules·specs.declared.refusals.CallRefusal.{CallRefusal}
-use Rattle·rules·specs.declared.refusals.CallRefusal.the-variants as Refusal
+use Rattle.std.specs.Prelude.{ℕ, zero, suc, ◌+◌, Bool, true, false, List, [], ◌∷◌, ◌++◌, length, drop, ℤ, Ok, Err, Result, ◌==◌, nat_le}
+use Rattle.arithmetic.specs.Meaning.{Meaning}
+use Rattle.evaluator.specs.Evaluating.{all-places, variable-places}
+use Rattle.rules.specs.Memory.{held-places}
+use Rattle.rules.specs.Numbering.{text_of}
+use Rattle.rules.specs.Opening.{opening}
+use Rattle.rules.specs.Reading.{read}
+use Rattle.rules.specs.Report.{Rate, rates, reported-in, report-size}
+use Rattle.rules.specs.Scopes.{is-input}
+use Rattle.rules.specs.Stepping.{ready?, step}
+use Rattle.rules.specs.Text.{Program}
+use Rattle.rules.specs.Threads.{Config, closable, is-ended}
+use Rattle.rules.specs.Ticks.{closing, finishing, loaded}
+use Rattle.rules.specs.declared.answers.Answer.{Answer}
+use Rattle.rules.specs.declared.answers.Answer.TheVariants.{Accepted, Opened, Steps, Reported, Refused}
+use Rattle.rules.specs.declared.faults.LoadFault.{LoadFault}
+use Rattle.rules.specs.Variables.{Variable}
+use Rattle.rules.specs.declared.refusals.CallRefusal.{CallRefusal}
+use Rattle.rules.specs.declared.refusals.CallRefusal.TheVariants as Refusal
 
 -- A call with its arguments.
 pub data Call : Type 0 where
@@ -42,36 +35,36 @@ pub data Machine (V : Type 0) : Type 0 where
 -- How many inputs are declared.
 abbrev pub inputs : List Variable → ℕ
 inputs [] = 0
-inputs (d ∷ ds) = elim (is-input (d .kind)) [ true ↦ suc (inputs ds) | false ↦ inputs ds ]
+inputs (d ∷ ds) = elim (is-input d.kind) [ true ↦ suc (inputs ds) | false ↦ inputs ds ]
 
 module _ {V : Type 0} (M : Meaning V) where
   -- How many places the value memory has.
-  abbrev pub places-of : Machine V → ℕ
-  places-of (empty w) = length w
-  places-of (running w bs p σ b c) = length w
+  abbrev pub places_of : Machine V → ℕ
+  places_of (empty w) = length w
+  places_of (running w bs p σ b c) = length w
 
   -- What the value memory holds: with a program loaded, its stores and copies in the places below 1,024, and in the work places what they held.
   abbrev pub memory-of : Machine V → List V
   memory-of (empty w) = w
-  memory-of (running w bs p σ b c) = held-places M (p .variables) σ ++ drop variable-places w
+  memory-of (running w bs p σ b c) = held-places M p.variables σ ++ drop variable-places w
 
   -- A program that was read is loaded; a fault of it refuses the load.
-  abbrev pub load-read : Machine V → (memory : List V) → List ℕ → Result Program LoadFault → Answer × Machine V
-  load-read m w bs (Ok p) = (Accepted, running w bs p (loaded M (p .variables) (text-of p)) false 0)
-  load-read m w bs (Err f) = (Refused (Refusal.Program f), m)
+  abbrev pub load_read : Machine V → (memory : List V) → List ℕ → Result Program LoadFault → Answer × Machine V
+  load_read m w bs (Ok p) = (Accepted, running w bs p (loaded M p.variables (text_of p)) false 0)
+  load_read m w bs (Err f) = (Refused (Refusal.Program f), m)
 
   -- Loading: 12 tick open, then the faults of the program.
   abbrev pub load-call : List ℕ → Machine V → Answer × Machine V
-  load-call bs (empty w) = load-read (empty w) w bs (read bs)
+  load-call bs (empty w) = load_read (empty w) w bs (read bs)
   load-call bs (running w old p σ true c) = (Refused Refusal.TickOpen, running w old p σ true c)
-  load-call bs (running w old p σ false c) = load-read (running w old p σ false c) w bs (read bs)
+  load-call bs (running w old p σ false c) = load_read (running w old p σ false c) w bs (read bs)
 
   -- Opening with no tick open: 14 main ended, then 15 count of readings.
   abbrev pub open-closed : List ℤ → (memory : List V) → List ℕ → Program → Config V → ℕ → Answer × Machine V
-  open-closed rs w bs p σ c = elim (is-ended (σ .main .own .state)) [
+  open-closed rs w bs p σ c = elim (is-ended σ.main.own.state) [
     | true ↦ (Refused Refusal.MainEnded, running w bs p σ false c)
-    | false ↦ elim (eqb (length rs) (inputs (p .variables))) [
-      | true ↦ (Opened, running w bs p (opening M (p .variables) (text-of p) rs σ) true 0)
+    | false ↦ elim (length rs == inputs p.variables) [
+      | true ↦ (Opened, running w bs p (opening M p.variables (text_of p) rs σ) true 0)
       | false ↦ (Refused Refusal.Readings, running w bs p σ false c)
     ]
   ]
@@ -84,13 +77,13 @@ module _ {V : Type 0} (M : Meaning V) where
 
   -- The step of thread t in an open tick.
   abbrev pub stepped : Program → ℕ → Config V → Config V
-  stepped p t σ = record { stores = σ .stores; main = step M (p .variables) (σ .stores) t (σ .main) }
+  stepped p t σ = record { stores = σ.stores; main = step M p.variables σ.stores t σ.main }
 
   -- Stepping: 16 no tick open, 17 thread not ready or unknown; the count grows by 1.
-  abbrev pub step-call : ℕ → Machine V → Answer × Machine V
-  step-call t (empty w) = (Refused Refusal.NoTick, empty w)
-  step-call t (running w bs p σ false c) = (Refused Refusal.NoTick, running w bs p σ false c)
-  step-call t (running w bs p σ true c) = elim (ready? t (σ .main)) [
+  abbrev pub step_call : ℕ → Machine V → Answer × Machine V
+  step_call t (empty w) = (Refused Refusal.NoTick, empty w)
+  step_call t (running w bs p σ false c) = (Refused Refusal.NoTick, running w bs p σ false c)
+  step_call t (running w bs p σ true c) = elim (ready? t σ.main) [
     | true ↦ (Accepted, running w bs p (stepped p t σ) true (suc c))
     | false ↦ (Refused Refusal.NotReady, running w bs p σ true c)
   ]
@@ -99,8 +92,8 @@ module _ {V : Type 0} (M : Meaning V) where
   abbrev pub close-call : Machine V → Answer × Machine V
   close-call (empty w) = (Refused Refusal.NoTick, empty w)
   close-call (running w bs p σ false c) = (Refused Refusal.NoTick, running w bs p σ false c)
-  close-call (running w bs p σ true c) = elim (closable (σ .main .own .state)) [
-    | true ↦ (Steps c, running w bs p (closing M (p .variables) σ) false c)
+  close-call (running w bs p σ true c) = elim (closable σ.main.own.state) [
+    | true ↦ (Steps c, running w bs p (closing M p.variables σ) false c)
     | false ↦ (Refused Refusal.StepsRemain, running w bs p σ true c)
   ]
 
@@ -109,16 +102,16 @@ module _ {V : Type 0} (M : Meaning V) where
   finish-call (empty w) = (Refused Refusal.NoTick, empty w)
   finish-call (running w bs p σ false c) = (Refused Refusal.NoTick, running w bs p σ false c)
   finish-call (running w bs p σ true c) =
-      let e = finishing M (p .variables) (text-of p) c σ in (Steps (e .0), running w bs p (e .1) false (e .0))
+      let e = finishing M p.variables (text_of p) c σ in (Steps e.0, running w bs p e.1 false e.0)
 
   -- The rates of a configuration.
   abbrev pub rates-of : Program → Config V → List Rate
-  rates-of p σ = rates M (p .variables) 0 (σ .stores)
+  rates-of p σ = rates M p.variables 0 σ.stores
 
   -- Reporting: 13 nothing loaded, 19 space under 5 bytes an output and 8 for the sum.
   abbrev pub report-call : List ℕ → Machine V → Answer × Machine V
   report-call space (empty w) = (Refused Refusal.NothingLoaded, empty w)
-  report-call space (running w bs p σ b c) = elim (leb (report-size (rates-of p σ)) (length space)) [
+  report-call space (running w bs p σ b c) = elim (nat_le (report-size (rates-of p σ)) (length space)) [
     | true ↦ (Reported, running w bs p σ b c)
     | false ↦ (Refused Refusal.Space, running w bs p σ b c)
   ]
@@ -127,14 +120,14 @@ module _ {V : Type 0} (M : Meaning V) where
   abbrev pub perform-right : Call → Machine V → Answer × Machine V
   perform-right (load bs) m = load-call bs m
   perform-right (open-tick rs) m = open-call rs m
-  perform-right (step-thread t) m = step-call t m
+  perform-right (step-thread t) m = step_call t m
   perform-right close m = close-call m
   perform-right finish m = finish-call m
   perform-right (report space) m = report-call space m
 
   -- Any call: 11 value memory not 1,040 places comes first.
   abbrev pub perform : Call → Machine V → Answer × Machine V
-  perform c m = elim (eqb (places-of m) all-places) [ true ↦ perform-right c m | false ↦ (Refused Refusal.Memory, m) ]
+  perform c m = elim (places_of m == all-places) [ true ↦ perform-right c m | false ↦ (Refused Refusal.Memory, m) ]
 
   -- The rates that a machine reports; with nothing loaded there are none.
   abbrev pub rates-now : Machine V → List Rate

@@ -1,20 +1,17 @@
 -- How a program is written in bytes.
-use Prim.Native.Nat.{ℕ, _+_, _/_, _%_}
-use mathlib.Core.Bool.{Bool, true, false, cond}
-use mathlib.Core.List.{List, [], _∷_, _++_}
-use lib.ListN.{length}
-use mir.Syntax.{w32}
-use mir.Val.{ofZ}
-use Rattle·arithmetic.specs.Operators.{combining-number}
-use Rattle·evaluator.specs.Commands.{written, four-bytes}
-use Rattle·rules·specs.Text.{Expression, Stmt, nothing, assign, pause, branch, loop, par, abort, Block, end, _then_, Program}
-use Rattle·rules·specs.declared.program.Kind.{Kind}
-use Rattle·rules·specs.declared.program.Kind.the-variants as Kind
-use Rattle·rules·specs.declared.program.Policy.{Policy}
-use Rattle·rules·specs.declared.program.Policy.the-variants as Policy
-use Rattle·rules·specs.Variables.{Variable}
-use Rattle·rules·specs.declared.program.Form.{Form}
-use Rattle·rules·specs.declared.program.Form.the-variants as Form
+use Rattle.std.specs.Prelude.{ℕ, ◌+◌, ◌/◌, ◌%◌, Bool, true, false, cond, List, [], ◌∷◌, ◌++◌, length}
+use Rattle.std.specs.Int.{w32}
+use Rattle.std.proofs.Common.{of_z}
+use Rattle.arithmetic.specs.Operators.{combining-number}
+use Rattle.evaluator.specs.Commands.{written, four_bytes}
+use Rattle.rules.specs.Text.{Expression, Stmt, nothing, assign, pause, branch, loop, par, abort, Block, end, ◌then◌, Program}
+use Rattle.rules.specs.declared.program.Kind.{Kind}
+use Rattle.rules.specs.declared.program.Kind.TheVariants as Kind
+use Rattle.rules.specs.declared.program.Policy.{Policy}
+use Rattle.rules.specs.declared.program.Policy.TheVariants as Policy
+use Rattle.rules.specs.Variables.{Variable}
+use Rattle.rules.specs.declared.program.Form.{Form}
+use Rattle.rules.specs.declared.program.Form.TheVariants as Form
 
 -- The number of each kind.
 abbrev pub kind-number : Kind → ℕ
@@ -42,8 +39,8 @@ form-byte Form.Abort = 6
 -- A declaration: kind, policy, operator and owner, then initial value, low and high of four bytes each.
 abbrev pub declaration-bytes : Variable → List ℕ
 declaration-bytes d =
-    kind-number (d .kind) ∷ policy-number (d .policy) ∷ combining-number (d .operator) ∷ d .owner
-    ∷ four-bytes (ofZ w32 (d .initial)) ++ (four-bytes (ofZ w32 (d .low)) ++ four-bytes (ofZ w32 (d .high)))
+    kind-number d.kind ∷ policy-number d.policy ∷ combining-number d.operator ∷ d.owner
+    ∷ four_bytes (of_z w32 d.initial) ++ (four_bytes (of_z w32 d.low) ++ four_bytes (of_z w32 d.high))
 
 -- Declarations are written one after the other.
 abbrev pub declarations-bytes : List Variable → List ℕ
@@ -55,8 +52,8 @@ abbrev pub expression-bytes : Expression → List ℕ
 expression-bytes e = length (written e) ∷ written e
 
 -- A block's length is two bytes, the low one first.
-abbrev pub two-bytes : ℕ → List ℕ
-two-bytes n = n % 256 ∷ n / 256 ∷ []
+abbrev pub two_bytes : ℕ → List ℕ
+two_bytes n = n % 256 ∷ n / 256 ∷ []
 
 -- Bit 0 is weak, bit 1 is immediate.
 abbrev pub flags : (weak immediate : Bool) → ℕ
@@ -69,10 +66,10 @@ abbrev mutual
   statement-bytes (nothing a) = form-byte Form.Nothing ∷ []
   statement-bytes (assign a v e) = form-byte Form.Set ∷ v ∷ expression-bytes e
   statement-bytes (pause a) = form-byte Form.Pause ∷ []
-  statement-bytes (branch a e X Y) = form-byte Form.If ∷ expression-bytes e ++ (two-bytes (length (block-bytes X)) ++ (two-bytes (length (block-bytes Y)) ++ (block-bytes X ++ block-bytes Y)))
-  statement-bytes (loop a bound e X) = form-byte Form.Loop ∷ bound ∷ expression-bytes e ++ (two-bytes (length (block-bytes X)) ++ block-bytes X)
-  statement-bytes (par a X Y) = form-byte Form.Par ∷ two-bytes (length (block-bytes X)) ++ (two-bytes (length (block-bytes Y)) ++ (block-bytes X ++ block-bytes Y))
-  statement-bytes (abort a w i e X) = form-byte Form.Abort ∷ flags w i ∷ expression-bytes e ++ (two-bytes (length (block-bytes X)) ++ block-bytes X)
+  statement-bytes (branch a e X Y) = form-byte Form.If ∷ expression-bytes e ++ (two_bytes (length (block-bytes X)) ++ (two_bytes (length (block-bytes Y)) ++ (block-bytes X ++ block-bytes Y)))
+  statement-bytes (loop a bound e X) = form-byte Form.Loop ∷ bound ∷ expression-bytes e ++ (two_bytes (length (block-bytes X)) ++ block-bytes X)
+  statement-bytes (par a X Y) = form-byte Form.Par ∷ two_bytes (length (block-bytes X)) ++ (two_bytes (length (block-bytes Y)) ++ (block-bytes X ++ block-bytes Y))
+  statement-bytes (abort a w i e X) = form-byte Form.Abort ∷ flags w i ∷ expression-bytes e ++ (two_bytes (length (block-bytes X)) ++ block-bytes X)
 
   -- A block is its statements, one after the other.
   pub block-bytes : {A : Type 0} → Block A → List ℕ
@@ -81,4 +78,4 @@ abbrev mutual
 
 -- A program: the count of its variables, their declarations, main's block.
 abbrev pub encode : Program → List ℕ
-encode p = length (p .variables) ∷ declarations-bytes (p .variables) ++ block-bytes (p .main)
+encode p = length p.variables ∷ declarations-bytes p.variables ++ block-bytes p.main

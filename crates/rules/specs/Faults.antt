@@ -1,16 +1,14 @@
 -- The outside numbers of faults, their places, layers, statements and threads.
-use Prim.Native.Nat.{ℕ}
-use Rattle·std.specs.declared.option.Option.{Option}
-use Rattle·std.specs.declared.option.Option.the-variants.{Some, None}
-use Rattle·rules·specs.declared.faults.Layer.{Layer}
-use Rattle·rules·specs.declared.faults.Layer.the-variants as Layer
-use Rattle·rules·specs.declared.faults.ReadingFault.{ReadingFault}
-use Rattle·rules·specs.declared.faults.ReadingFault.the-variants.{Cut, Unknown}
-use Rattle·rules·specs.declared.faults.StatementFault.{StatementFault}
-use Rattle·rules·specs.declared.faults.StatementFault.the-variants.{Reading, BadExpression, WrongVariable, OverLimit, MayNotPause}
-use Rattle·rules·specs.declared.faults.Site.{Site}
-use Rattle·rules·specs.declared.faults.LoadFault.{LoadFault}
-use Rattle·rules·specs.declared.faults.LoadFault.the-variants.{BadLength, TooManyVariables, CutDeclaration, BadDeclaration, Statement, TickTooLong}
+use Rattle.std.specs.Prelude.{ℕ, Some, None, Option}
+use Rattle.rules.specs.declared.faults.Layer.{Layer}
+use Rattle.rules.specs.declared.faults.Layer.TheVariants as Layer
+use Rattle.rules.specs.declared.faults.ReadingFault.{ReadingFault}
+use Rattle.rules.specs.declared.faults.ReadingFault.TheVariants.{Cut, Unknown}
+use Rattle.rules.specs.declared.faults.StatementFault.{StatementFault}
+use Rattle.rules.specs.declared.faults.StatementFault.TheVariants.{Reading, BadExpression, WrongVariable, OverLimit, MayNotPause}
+use Rattle.rules.specs.declared.faults.Site.{Site}
+use Rattle.rules.specs.declared.faults.LoadFault.{LoadFault}
+use Rattle.rules.specs.declared.faults.LoadFault.TheVariants.{BadLength, TooManyVariables, CutDeclaration, BadDeclaration, Statement, TickTooLong}
 
 -- 2 cut, 5 unknown command or flag.
 abbrev pub reading-number : ReadingFault → ℕ

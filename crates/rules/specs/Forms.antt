@@ -1,11 +1,8 @@
 -- The forms of statements by what operands they have, so that reading has one case for all.
-use Prim.Native.Nat.{ℕ, _%_}
-use mathlib.Core.Bool.{Bool, true, false}
-use mathlib.Core.List.{List, [], _∷_}
-use lib.Dec.{eqb, leb, ltb}
-use Rattle·rules·specs.Text.{Expression, Stmt, nothing, assign, pause, branch, loop, par, abort, Block}
-use Rattle·rules·specs.declared.program.Form.{Form}
-use Rattle·rules·specs.declared.program.Form.the-variants.{Nothing, Set, Pause, If, Loop, Par, Abort}
+use Rattle.std.specs.Prelude.{ℕ, ◌%◌, Bool, true, false, List, [], ◌∷◌, ◌==◌, nat_le, nat_lt}
+use Rattle.rules.specs.Text.{Expression, Stmt, nothing, assign, pause, branch, loop, par, abort, Block}
+use Rattle.rules.specs.declared.program.Form.{Form}
+use Rattle.rules.specs.declared.program.Form.TheVariants.{Nothing, Set, Pause, If, Loop, Par, Abort}
 
 -- The seven forms, in the order of their command bytes.
 abbrev pub forms : List Form
@@ -32,14 +29,14 @@ has-expression Par = false
 has-expression Abort = true
 
 -- An if, a loop, a par and an abort have a block.
-abbrev pub has-block : Form → Bool
-has-block Nothing = false
-has-block Set = false
-has-block Pause = false
-has-block If = true
-has-block Loop = true
-has-block Par = true
-has-block Abort = true
+abbrev pub has_block : Form → Bool
+has_block Nothing = false
+has_block Set = false
+has_block Pause = false
+has_block If = true
+has_block Loop = true
+has_block Par = true
+has_block Abort = true
 
 -- An if and a par have a second block.
 abbrev pub has-second-block : Form → Bool
@@ -69,7 +66,7 @@ flags-known Pause o = true
 flags-known If o = true
 flags-known Loop o = true
 flags-known Par o = true
-flags-known Abort o = ltb o 4
+flags-known Abort o = nat_lt o 4
 
 -- The statement of a form, with its byte, its expression and its blocks as far as it has them.
 abbrev pub build : Form → ℕ → Expression → (X Y : Block (Unit {0})) → Stmt (Unit {0})
@@ -79,4 +76,4 @@ build Pause o e X Y = pause tt
 build If o e X Y = branch tt e X Y
 build Loop o e X Y = loop tt o e X
 build Par o e X Y = par tt X Y
-build Abort o e X Y = abort tt (eqb (o % 2) 1) (leb 2 o) e X
+build Abort o e X Y = abort tt (o % 2 == 1) (nat_le 2 o) e X

@@ -1,7 +1,6 @@
 -- Tick length, and which blocks must pause.
-use Prim.Native.Nat.{ℕ, zero, suc, _+_, _*_, max}
-use mathlib.Core.Bool.{Bool, true, false, _&&_, _||_}
-use Rattle·rules·specs.Text.{Stmt, nothing, assign, pause, branch, loop, par, abort, Block, end, _then_, Program}
+use Rattle.std.specs.Prelude.{ℕ, zero, suc, ◌+◌, ◌*◌, max, Bool, true, false, ◌&&◌, ◌||◌}
+use Rattle.rules.specs.Text.{Stmt, nothing, assign, pause, branch, loop, par, abort, Block, end, ◌then◌, Program}
 
 -- The greatest tick length of a program.
 abbrev pub longest-tick : ℕ
@@ -31,7 +30,7 @@ abbrev mutual
 
 -- A program's tick length is main's block and one step at its end.
 abbrev pub tick-length : Program → ℕ
-tick-length p = block-length (p .main) + 1
+tick-length p = block-length p.main + 1
 
 -- Which statements and blocks pause on every way through.
 abbrev mutual

@@ -1,9 +1,8 @@
 -- The text as it is run: each statement with its number, its byte place, its thread, and the number that the next arm takes.
-use Prim.Native.Nat.{ℕ, _+_, _*_}
-use lib.ListN.{length}
-use Rattle·rules·specs.Encoding.{statement-bytes, block-bytes}
-use Rattle·rules·specs.Reading.{head-size}
-use Rattle·rules·specs.Text.{Stmt, nothing, assign, pause, branch, loop, par, abort, Block, end, _then_, Program, count-of, count, arms, arms-of}
+use Rattle.std.specs.Prelude.{ℕ, ◌+◌, ◌*◌, length}
+use Rattle.rules.specs.Encoding.{statement-bytes, block-bytes}
+use Rattle.rules.specs.Reading.{head-size}
+use Rattle.rules.specs.Text.{Stmt, nothing, assign, pause, branch, loop, par, abort, Block, end, ◌then◌, Program, count_of, count, arms, arms_of}
 
 -- Statements and threads are numbered in reading order, places counted from the program's byte 0.
 pub record Mark : Type 0 where
@@ -22,11 +21,11 @@ Text = Block Mark
 
 -- A par's first arm takes the next thread number.
 abbrev pub first-arm : Mark → ℕ
-first-arm m = m .next
+first-arm m = m.next
 
 -- A par's second arm takes the number after the first arm and all arms inside that.
 abbrev pub second-arm : Mark → Text → ℕ
-second-arm m X = m .next + 1 + arms X
+second-arm m X = m.next + 1 + arms X
 
 -- n is the number, p the place, t the thread of the first statement, u the number that the next arm takes.
 abbrev mutual
@@ -54,8 +53,8 @@ abbrev mutual
   pub number-block : (n p t u : ℕ) → Block (Unit {0}) → Text
   number-block n p t u end = end
   number-block n p t u (s then B) =
-      number-statement n p t u s then number-block (n + count-of s) (p + length (statement-bytes s)) t (u + arms-of s) B
+      number-statement n p t u s then number-block (n + count_of s) (p + length (statement-bytes s)) t (u + arms_of s) B
 
 -- Main is thread 0; its block comes after the declarations.
-abbrev pub text-of : Program → Text
-text-of p = number-block 0 (1 + 16 * length (p .variables)) 0 1 (p .main)
+abbrev pub text_of : Program → Text
+text_of p = number-block 0 (1 + 16 * length p.variables) 0 1 p.main

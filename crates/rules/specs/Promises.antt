@@ -1,28 +1,21 @@
 -- The promises that the rules are proved to keep. docs/PROMISES.md says which of them stand on a contract.
-use Prim.Native.Nat.{ℕ, _≤_, _<_}
-use mathlib.Core.Bool.{Bool, true, false}
-use mathlib.Core.List.{List}
-use mathlib.Core.Logic.{_↔_, _⊎_, _≢_}
-use mathlib.Core.Path.{_≡_}
-use lib.Signed.{_≤ℤ_}
-use Rattle·std.specs.declared.option.Option.the-variants.{Some}
-use Rattle·std.specs.declared.result.Result.the-variants.{Ok, Err}
-use Rattle·std.specs.shelf.Lists.{All}
-use Rattle·arithmetic.specs.Meaning.{Meaning}
-use Rattle·rules·specs.Calls.{Call, step-thread, close, finish, Machine, empty, running, rates-of, perform}
-use Rattle·rules·specs.Encoding.{encode}
-use Rattle·rules·specs.FirstFault.{read-in-order, Same-through}
-use Rattle·rules·specs.Lengths.{tick-length}
-use Rattle·rules·specs.Reading.{read}
-use Rattle·rules·specs.Report.{sum-of}
-use Rattle·rules·specs.Runs.{Reference, nothing-yet, having, after-calls, was-accepted}
-use Rattle·rules·specs.Stepping.{ready?, step}
-use Rattle·rules·specs.Text.{Program}
-use Rattle·rules·specs.Threads.{Thread}
-use Rattle·rules·specs.Valid.{Valid}
-use Rattle·rules·specs.Variables.{Variable}
-use Rattle·rules·specs.declared.answers.Answer.the-variants.{Steps}
-use Rattle·rules·specs.declared.faults.LoadFault.{LoadFault}
+use Rattle.std.specs.Prelude.{◌≡◌, ℕ, ◌<◌, ◌≤◌, Bool, true, false, ◌≢◌, ◌⊎◌, ◌↔◌, List, ◌≤ℤ◌, Some, Ok, Err}
+use Rattle.std.specs.List.{AllByRecursion as All}
+use Rattle.arithmetic.specs.Meaning.{Meaning}
+use Rattle.rules.specs.Calls.{Call, step-thread, close, finish, Machine, empty, running, rates-of, perform}
+use Rattle.rules.specs.Encoding.{encode}
+use Rattle.rules.specs.FirstFault.{read-in-order, Same-through}
+use Rattle.rules.specs.Lengths.{tick-length}
+use Rattle.rules.specs.Reading.{read}
+use Rattle.rules.specs.Report.{sum_of}
+use Rattle.rules.specs.Runs.{Reference, nothing_yet, having, after-calls, was-accepted}
+use Rattle.rules.specs.Stepping.{ready?, step}
+use Rattle.rules.specs.Text.{Program}
+use Rattle.rules.specs.Threads.{Thread}
+use Rattle.rules.specs.Valid.{Valid}
+use Rattle.rules.specs.Variables.{Variable}
+use Rattle.rules.specs.declared.answers.Answer.TheVariants.{Steps}
+use Rattle.rules.specs.declared.faults.LoadFault.{LoadFault}
 
 -- ── loading ──
 
@@ -32,21 +25,21 @@ Loading-accepts-the-valid = (bs : List ℕ) (p : Program) → All (λ b. b < 256
 
 -- The fault that loading names is the first: bytes in which it is met in order are refused by it, and so are all equally long ones that are the same before its place and in the 261 bytes from there on, whatever comes after them.
 abbrev pub The-first-fault-is-named : Type 0
-The-first-fault-is-named = (bs bs′ : List ℕ) (f : LoadFault) → All (λ b. b < 256) bs → read-in-order bs ≡ Err f → Same-through f bs bs′ → (read bs ≡ Err f) × (read bs′ ≡ Err f)
+The-first-fault-is-named = (bs bs' : List ℕ) (f : LoadFault) → All (λ b. b < 256) bs → read-in-order bs ≡ Err f → Same-through f bs bs' → (read bs ≡ Err f) × (read bs' ≡ Err f)
 
 -- ── the order of steps ──
 
 module _ {V : Type 0} where
   -- With no tick open, the machine has the program, the stores, thread states, places, passes left and marks of the left-to-right run, and the count of its last tick.
   abbrev pub Agrees : Machine V → Reference V → Type 0
-  Agrees (empty w) r = r ≡ nothing-yet
+  Agrees (empty w) r = r ≡ nothing_yet
   Agrees (running w bs p σ true c) r = Unit {0}
   Agrees (running w bs p σ false c) r = r ≡ having p σ c
 
   -- The count that a closing or finishing answered is the left-to-right run's, and at most the tick length of the program that is loaded.
   abbrev pub Counts : ℕ → Machine V → Reference V → Type 0
   Counts k (empty w) r = ⊥
-  Counts k (running w bs p σ b c) nothing-yet = ⊥
+  Counts k (running w bs p σ b c) nothing_yet = ⊥
   Counts k (running w bs p σ b c) (having q τ d) = (k ≡ d) × (k ≤ tick-length p)
 
   -- A tick is open.
@@ -59,25 +52,25 @@ module _ {V : Type 0} (M : Meaning V) where
   abbrev pub Reports-agree : Machine V → Reference V → Type 0
   Reports-agree (empty w) r = Unit {0}
   Reports-agree (running w bs p σ true c) r = Unit {0}
-  Reports-agree (running w bs p σ false c) nothing-yet = ⊥
-  Reports-agree (running w bs p σ false c) (having q τ d) = (rates-of M p σ ≡ rates-of M q τ) × (sum-of (rates-of M p σ) ≡ sum-of (rates-of M q τ))
+  Reports-agree (running w bs p σ false c) nothing_yet = ⊥
+  Reports-agree (running w bs p σ false c) (having q τ d) = (rates-of M p σ ≡ rates-of M q τ) × (sum_of (rates-of M p σ) ≡ sum_of (rates-of M q τ))
 
   -- A call would be accepted.
   abbrev pub Accepts : Machine V → Call → Type 0
-  Accepts m c = was-accepted (perform M c m .0) ≡ true
+  Accepts m c = was-accepted (perform M c m).0 ≡ true
 
   -- While a tick is open, some thread's step would be accepted, or closing would; never both.
   pub record Step-or-close (m : Machine V) : Type 0 where
     pub one : ((t : ℕ) × Accepts m (step-thread t)) ⊎ Accepts m close
-    pub never-both : (t : ℕ) → Accepts m (step-thread t) → Accepts m close → ⊥
+    pub never_both : (t : ℕ) → Accepts m (step-thread t) → Accepts m close → ⊥
 
   -- For any list of calls from a new machine over one value memory of any length and content, which nothing else writes.
   pub record Order-leaves-no-trace-in (memory : List V) (cs : List Call) : Type 0 where
-    pub same : Agrees (after-calls M memory cs .0) (after-calls M memory cs .1)
-    pub reports : Reports-agree (after-calls M memory cs .0) (after-calls M memory cs .1)
-    pub closing-counts : (k : ℕ) → perform M close (after-calls M memory cs .0) .0 ≡ Steps k → Counts k (after-calls M memory cs .0) (after-calls M memory cs .1)
-    pub finishing-counts : (k : ℕ) → perform M finish (after-calls M memory cs .0) .0 ≡ Steps k → Counts k (after-calls M memory cs .0) (after-calls M memory cs .1)
-    pub goes-on : Open (after-calls M memory cs .0) → Step-or-close (after-calls M memory cs .0)
+    pub same : Agrees (after-calls M memory cs).0 (after-calls M memory cs).1
+    pub reports : Reports-agree (after-calls M memory cs).0 (after-calls M memory cs).1
+    pub closing-counts : (k : ℕ) → (perform M close (after-calls M memory cs).0).0 ≡ Steps k → Counts k (after-calls M memory cs).0 (after-calls M memory cs).1
+    pub finishing-counts : (k : ℕ) → (perform M finish (after-calls M memory cs).0).0 ≡ Steps k → Counts k (after-calls M memory cs).0 (after-calls M memory cs).1
+    pub goes_on : Open (after-calls M memory cs).0 → Step-or-close (after-calls M memory cs).0
 
   -- For every list of calls over every value memory.
   abbrev pub Order-leaves-no-trace-over : Type 0

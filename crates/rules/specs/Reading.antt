@@ -1,47 +1,37 @@
 -- Reading a program: from any bytes to the program, or to its first fault.
 -- Bytes are read from the front. `end` is the place where they end, so what is left, bs, begins at place `end - length bs`.
-use Prim.Native.Nat.{ℕ, zero, suc, _+_, _-_, _*_, _%_}
-use mathlib.Core.Bool.{Bool, true, false, _&&_, _||_, not, cond}
-use mathlib.Core.List.{List, [], _∷_}
-use lib.Dec.{leb, ltb, eqb}
-use lib.IntN.{ℤ}
-use lib.ListN.{length, getD, take, drop}
-use lib.Signed.{leZ}
-use Rattle·std.specs.declared.option.Option.{Option}
-use Rattle·std.specs.declared.option.Option.the-variants.{Some, None}
-use Rattle·std.specs.declared.result.Result.{Result}
-use Rattle·std.specs.declared.result.Result.the-variants.{Ok, Err}
-use Rattle·arithmetic.specs.Operators.{combining-number}
-use Rattle·arithmetic.specs.declared.operators.Combining.{Combining}
-use Rattle·arithmetic.specs.declared.operators.Combining.the-variants.{Sum, Least, Greatest, Left}
-use Rattle·evaluator.specs.Commands.{Command, constant, variable, operator, inversion, Placed, commands-of, signed-of}
-use Rattle·evaluator.specs.Evaluating.{deepest, longest}
-use Rattle·evaluator.specs.Evaluating.{most-variables}
-use Rattle·rules·specs.Encoding.{kind-number, policy-number, form-byte}
-use Rattle·rules·specs.Forms.{forms, has-byte, has-expression, has-block, has-second-block, par-count, flags-known, build}
-use Rattle·rules·specs.Lengths.{must-pause, block-length, longest-tick}
-use Rattle·rules·specs.Outcomes.{_>>=_, ensure, from-some, refused-as, numbered}
-use Rattle·rules·specs.Scopes.{readable, settable}
-use Rattle·rules·specs.Text.{Expression, Stmt, nothing, assign, pause, branch, loop, par, abort, Block, end, _then_, Program, count-of, count, pars-of, pars, arms, arms-of}
-use Rattle·rules·specs.Encoding.{statement-bytes, block-bytes}
-use Rattle·rules·specs.declared.faults.ReadingFault.{ReadingFault}
-use Rattle·rules·specs.declared.faults.ReadingFault.the-variants.{Cut, Unknown}
-use Rattle·rules·specs.declared.faults.StatementFault.{StatementFault}
-use Rattle·rules·specs.declared.faults.StatementFault.the-variants.{Reading, BadExpression, WrongVariable, OverLimit, MayNotPause}
-use Rattle·rules·specs.declared.faults.Site.{Site}
-use Rattle·rules·specs.declared.faults.LoadFault.{LoadFault}
-use Rattle·rules·specs.declared.faults.LoadFault.the-variants.{BadLength, TooManyVariables, CutDeclaration, BadDeclaration, Statement, TickTooLong}
-use Rattle·rules·specs.declared.program.Form.{Form}
-use Rattle·rules·specs.declared.program.Form.the-variants as Form
-use Rattle·rules·specs.declared.program.Kind.{Kind}
-use Rattle·rules·specs.declared.program.Kind.the-variants as Kind
-use Rattle·rules·specs.declared.program.Policy.{Policy}
-use Rattle·rules·specs.declared.program.Policy.the-variants as Policy
-use Rattle·rules·specs.Variables.{Variable}
+use Rattle.std.specs.Prelude.{ℕ, zero, suc, ◌+◌, ◌-◌, ◌*◌, ◌%◌, Bool, true, false, cond, not, ◌&&◌, ◌||◌, List, [], ◌∷◌, length, take, drop, ℤ, Some, None, Ok, Err, Option, Result, ◌==◌, int_le, nat_le, nat_lt, slice_index}
+use Rattle.arithmetic.specs.Operators.{combining-number}
+use Rattle.arithmetic.specs.declared.operators.Combining.{Combining}
+use Rattle.arithmetic.specs.declared.operators.Combining.TheVariants.{Sum, Least, Greatest, Left}
+use Rattle.evaluator.specs.Commands.{Command, constant, variable, operator, inversion, Placed, commands-of, signed_of}
+use Rattle.evaluator.specs.Evaluating.{deepest, longest}
+use Rattle.evaluator.specs.Evaluating.{most-variables}
+use Rattle.rules.specs.Encoding.{kind-number, policy-number, form-byte}
+use Rattle.rules.specs.Forms.{forms, has-byte, has-expression, has_block, has-second-block, par-count, flags-known, build}
+use Rattle.rules.specs.Lengths.{must-pause, block-length, longest-tick}
+use Rattle.rules.specs.Outcomes.{◌>>=◌, ensure, from_some, refused_as, numbered}
+use Rattle.rules.specs.Scopes.{readable, settable}
+use Rattle.rules.specs.Text.{Expression, Stmt, nothing, assign, pause, branch, loop, par, abort, Block, end, ◌then◌, Program, count_of, count, pars-of, pars, arms, arms_of}
+use Rattle.rules.specs.Encoding.{statement-bytes, block-bytes}
+use Rattle.rules.specs.declared.faults.ReadingFault.{ReadingFault}
+use Rattle.rules.specs.declared.faults.ReadingFault.TheVariants.{Cut, Unknown}
+use Rattle.rules.specs.declared.faults.StatementFault.{StatementFault}
+use Rattle.rules.specs.declared.faults.StatementFault.TheVariants.{Reading, BadExpression, WrongVariable, OverLimit, MayNotPause}
+use Rattle.rules.specs.declared.faults.Site.{Site}
+use Rattle.rules.specs.declared.faults.LoadFault.{LoadFault}
+use Rattle.rules.specs.declared.faults.LoadFault.TheVariants.{BadLength, TooManyVariables, CutDeclaration, BadDeclaration, Statement, TickTooLong}
+use Rattle.rules.specs.declared.program.Form.{Form}
+use Rattle.rules.specs.declared.program.Form.TheVariants as Form
+use Rattle.rules.specs.declared.program.Kind.{Kind}
+use Rattle.rules.specs.declared.program.Kind.TheVariants as Kind
+use Rattle.rules.specs.declared.program.Policy.{Policy}
+use Rattle.rules.specs.declared.program.Policy.TheVariants as Policy
+use Rattle.rules.specs.Variables.{Variable}
 
 -- A program has at most 4,096 bytes.
-abbrev pub most-bytes : ℕ
-most-bytes = 4096
+abbrev pub most_bytes : ℕ
+most_bytes = 4096
 
 -- A program has at most 512 statements.
 abbrev pub most-statements : ℕ
@@ -66,7 +56,7 @@ takes inversion = 1
 
 -- The command finds its values among d stacked ones, and there is room for what it leaves.
 abbrev pub stackable : Command → ℕ → Bool
-stackable c d = leb (takes c) d && leb (d - takes c + 1) deepest
+stackable c d = nat_le (takes c) d && nat_le (d - takes c + 1) deepest
 
 -- The variable that a command reads is one that thread t reads.
 abbrev pub command-readable : List Variable → ℕ → Command → Bool
@@ -78,19 +68,19 @@ command-readable ds t inversion = true
 -- Commands in order, with d values stacked: `from` is the place of the expression's first command, `at` that of its statement.
 abbrev pub checked : List Variable → (t from at d : ℕ) → List Placed → Result Expression StatementFault
 checked ds t from at d [] = do
-  _ ← ensure (eqb d 1) (BadExpression at)
+  _ ← ensure (d == 1) (BadExpression at)
   Ok []
 checked ds t from at d (c ∷ cs) = do
-  k ← from-some (c .command) (BadExpression (from + c .place))
-  _ ← ensure (stackable k d) (BadExpression (from + c .place))
-  _ ← ensure (command-readable ds t k) (WrongVariable (from + c .place))
+  k ← from_some c.command (BadExpression (from + c.place))
+  _ ← ensure (stackable k d) (BadExpression (from + c.place))
+  _ ← ensure (command-readable ds t k) (WrongVariable (from + c.place))
   e ← checked ds t from at (d - takes k + 1) cs
   Ok (k ∷ e)
 
 -- An expression's bytes, 1 to 64 of them.
 abbrev pub read-expression : List Variable → (t from at : ℕ) → List ℕ → Result Expression StatementFault
 read-expression ds t from at bs = do
-  _ ← ensure (leb 1 (length bs) && leb (length bs) longest) (BadExpression at)
+  _ ← ensure (nat_le 1 (length bs) && nat_le (length bs) longest) (BadExpression at)
   checked ds t from at 0 (commands-of bs)
 
 -- ── statements ──
@@ -111,16 +101,16 @@ module _ (p : ℕ) where
   byte-in true (b ∷ bs) = Ok (b, bs)
 
   -- The next n bytes, and those after them; past the enclosing end they are a cut at p.
-  abbrev pub part-in : ℕ → List ℕ → Result (List ℕ × List ℕ) ReadingFault
-  part-in n bs = do
-    _ ← ensure (leb n (length bs)) (Cut p)
+  abbrev pub part_in : ℕ → List ℕ → Result (List ℕ × List ℕ) ReadingFault
+  part_in n bs = do
+    _ ← ensure (nat_le n (length bs)) (Cut p)
     Ok (take n bs, drop n bs)
 
   -- An expression's bytes, as many as its length byte says, none without an expression; past the enclosing end they are a cut at p.
-  abbrev pub code-in : Bool → List ℕ → Result (List ℕ × List ℕ) ReadingFault
-  code-in false bs = Ok ([], bs)
-  code-in true [] = Err (Cut p)
-  code-in true (n ∷ bs) = part-in n bs
+  abbrev pub code_in : Bool → List ℕ → Result (List ℕ × List ℕ) ReadingFault
+  code_in false bs = Ok ([], bs)
+  code_in true [] = Err (Cut p)
+  code_in true (n ∷ bs) = part_in n bs
 
   -- A block's length in two bytes, the low one first, 0 without a block; past the enclosing end they are a cut at p.
   abbrev pub length-in : Bool → List ℕ → Result (ℕ × List ℕ) ReadingFault
@@ -130,15 +120,15 @@ module _ (p : ℕ) where
   length-in true (a ∷ b ∷ bs) = Ok (a + b * 256, bs)
 
   -- In this order: operand byte, expression, lengths, blocks, as far as the form has them.
-  abbrev pub parts-in : Form → List ℕ → Result Parts ReadingFault
-  parts-in k bs = do
+  abbrev pub parts_in : Form → List ℕ → Result Parts ReadingFault
+  parts_in k bs = do
     o ← byte-in (has-byte k) bs
-    c ← code-in (has-expression k) (o .1)
-    m ← length-in (has-block k) (c .1)
-    n ← length-in (has-second-block k) (m .1)
-    X ← part-in (m .0) (n .1)
-    Y ← part-in (n .0) (X .1)
-    Ok (record { byte = o .0; code = c .0; first = X .0; second = Y .0; after = Y .1 })
+    c ← code_in (has-expression k) o.1
+    m ← length-in (has_block k) c.1
+    n ← length-in (has-second-block k) m.1
+    X ← part_in m.0 n.1
+    Y ← part_in n.0 X.1
+    Ok (record { byte = o.0; code = c.0; first = X.0; second = Y.0; after = Y.1 })
 
 -- Where the expression of a statement at place p begins.
 abbrev pub code-place : Form → ℕ → ℕ
@@ -156,18 +146,18 @@ start = record { statements = 0; pars = 0; threads = 1 }
 
 -- A statement is counted with all that stands inside it; each par takes two thread numbers.
 abbrev pub after-statement : {A : Type 0} → Stmt A → Counts → Counts
-after-statement s a = record { statements = a .statements + count-of s; pars = a .pars + pars-of s; threads = a .threads + arms-of s }
+after-statement s a = record { statements = a.statements + count_of s; pars = a.pars + pars-of s; threads = a.threads + arms_of s }
 
 -- Before its first block a statement is counted itself; a par has taken its first arm's number.
 abbrev pub before-first : Form → Counts → Counts
-before-first k a = record { statements = a .statements + 1; pars = a .pars + par-count k; threads = a .threads + par-count k }
+before-first k a = record { statements = a.statements + 1; pars = a.pars + par-count k; threads = a.threads + par-count k }
 
 -- Before its second block the first is counted too; a par has taken its second arm's number.
 abbrev pub before-second : {A : Type 0} → Form → Block A → Counts → Counts
 before-second k X a = record {
-  statements = a .statements + 1 + count X;
-  pars = a .pars + par-count k + pars X;
-  threads = a .threads + par-count k + arms X + par-count k;
+  statements = a.statements + 1 + count X;
+  pars = a.pars + par-count k + pars X;
+  threads = a.threads + par-count k + arms X + par-count k;
 }
 
 -- An arm is a thread of its own, of the number before `next`; another block is its statement's thread's.
@@ -182,7 +172,7 @@ block-thread Form.Abort t u = t
 
 -- There is room for the statement, for its pars and for its blocks, where n more nested blocks are allowed.
 abbrev pub within-limits : ℕ → Form → Counts → Bool
-within-limits n k a = ltb (a .statements) most-statements && (leb (a .pars + par-count k) most-pars && (not (has-block k) || ltb 0 n))
+within-limits n k a = nat_lt a.statements most-statements && (nat_le (a.pars + par-count k) most-pars && (not (has_block k) || nat_lt 0 n))
 
 -- A set names a variable that its thread sets.
 abbrev pub set-right : List Variable → ℕ → Form → ℕ → Bool
@@ -206,14 +196,14 @@ pub record Head : Type 0 where
   pub expression : Expression
 
 -- In this order: unknown command, limits, cut, flags, variable, expression. The statement begins with byte c at place p; n more nested blocks are allowed.
-abbrev pub read-head : List Variable → (n t : ℕ) → Counts → (p c : ℕ) → List ℕ → Result Head StatementFault
-read-head ds n t a p c bs = do
-  k ← from-some (numbered form-byte forms c) (Reading (Unknown p))
+abbrev pub read_head : List Variable → (n t : ℕ) → Counts → (p c : ℕ) → List ℕ → Result Head StatementFault
+read_head ds n t a p c bs = do
+  k ← from_some (numbered form-byte forms c) (Reading (Unknown p))
   _ ← ensure (within-limits n k a) (OverLimit p)
-  o ← refused-as Reading (parts-in p k bs)
-  _ ← ensure (flags-known k (o .byte)) (Reading (Unknown p))
-  _ ← ensure (set-right ds t k (o .byte)) (WrongVariable p)
-  e ← expression-of ds t (code-place k p) p (has-expression k) (o .code)
+  o ← refused_as Reading (parts_in p k bs)
+  _ ← ensure (flags-known k o.byte) (Reading (Unknown p))
+  _ ← ensure (set-right ds t k o.byte) (WrongVariable p)
+  e ← expression-of ds t (code-place k p) p (has-expression k) o.code
   Ok (record { form = k; parts = o; expression = e })
 
 -- How a block is read: its thread, the counts before it, the place of its end, its bytes.
@@ -223,14 +213,14 @@ Reads = (t : ℕ) → Counts → (end : ℕ) → List ℕ → Result (Block (Uni
 -- The blocks of a statement, in order.
 abbrev pub read-blocks : Reads → (t : ℕ) → Counts → (end : ℕ) → Head → Result (Stmt (Unit {0}) × List ℕ) LoadFault
 read-blocks deeper t a e h = do
-  X ← deeper (block-thread (h .form) t (before-first (h .form) a .threads)) (before-first (h .form) a) (e - length (h .parts .after) - length (h .parts .second)) (h .parts .first)
-  Y ← deeper (block-thread (h .form) t (before-second (h .form) X a .threads)) (before-second (h .form) X a) (e - length (h .parts .after)) (h .parts .second)
-  Ok (build (h .form) (h .parts .byte) (h .expression) X Y, h .parts .after)
+  X ← deeper (block-thread h.form t (before-first h.form a).threads) (before-first h.form a) (e - length h.parts.after - length h.parts.second) h.parts.first
+  Y ← deeper (block-thread h.form t (before-second h.form X a).threads) (before-second h.form X a) (e - length h.parts.after) h.parts.second
+  Ok (build h.form h.parts.byte h.expression X Y, h.parts.after)
 
 -- A statement in a block that ends at `end`; a fault before its blocks carries the number that it has or would take, and its thread.
 abbrev pub read-statement : List Variable → ℕ → Reads → (t : ℕ) → Counts → (end c : ℕ) → List ℕ → Result (Stmt (Unit {0}) × List ℕ) LoadFault
 read-statement ds n deeper t a e c bs = do
-  h ← refused-as (λ f. Statement f (record { statement = a .statements; thread = t })) (read-head ds n t a (e - suc (length bs)) c bs)
+  h ← refused_as (λ f. Statement f (record { statement = a.statements; thread = t })) (read_head ds n t a (e - suc (length bs)) c bs)
   read-blocks deeper t a e h
 
 -- Statements that fill the bytes exactly; `fuel` is at least their length.
@@ -239,8 +229,8 @@ read-statements ds n deeper t f a e [] = Ok end
 read-statements ds n deeper t zero a e (c ∷ bs) = Ok end
 read-statements ds n deeper t (suc f) a e (c ∷ bs) = do
   s ← read-statement ds n deeper t a e c bs
-  B ← read-statements ds n deeper t f (after-statement (s .0) a) e (s .1)
-  Ok (s .0 then B)
+  B ← read-statements ds n deeper t f (after-statement s.0 a) e s.1
+  Ok (s.0 then B)
 
 -- A block, with n nested blocks allowed, itself counted.
 abbrev pub read-block : List Variable → ℕ → Reads
@@ -263,33 +253,33 @@ combinings = Sum ∷ Least ∷ Greatest ∷ Left ∷ []
 
 -- Inputs and privates have policy 0 and operator 0; what is no private has owner 0.
 abbrev pub zeros-right : Kind → (policy operator owner : ℕ) → Bool
-zeros-right Kind.Input p c o = eqb p 0 && (eqb c 0 && eqb o 0)
-zeros-right Kind.Private p c o = eqb p 0 && eqb c 0
-zeros-right Kind.Shared p c o = eqb o 0
-zeros-right Kind.Output p c o = eqb o 0
+zeros-right Kind.Input p c o = p == 0 && (c == 0 && o == 0)
+zeros-right Kind.Private p c o = p == 0 && c == 0
+zeros-right Kind.Shared p c o = o == 0
+zeros-right Kind.Output p c o = o == 0
 
 -- The signed number in four bytes from place i on.
-abbrev pub number-at : ℕ → List ℕ → ℤ
-number-at i bs = signed-of (getD bs i 0) (getD bs (i + 1) 0) (getD bs (i + 2) 0) (getD bs (i + 3) 0)
+abbrev pub number_at : ℕ → List ℕ → ℤ
+number_at i bs = signed_of (slice_index bs i) (slice_index bs (i + 1)) (slice_index bs (i + 2)) (slice_index bs (i + 3))
 
 -- A declaration of 16 bytes: known kind, policy and operator, zeros where they belong, low ≤ initial ≤ high.
 abbrev pub read-declaration : LoadFault → List ℕ → Result Variable LoadFault
 read-declaration f bs = do
-  k ← from-some (numbered kind-number kinds (getD bs 0 0)) f
-  p ← from-some (numbered policy-number policies (getD bs 1 0)) f
-  c ← from-some (numbered combining-number combinings (getD bs 2 0)) f
-  _ ← ensure (zeros-right k (getD bs 1 0) (getD bs 2 0) (getD bs 3 0)) f
-  _ ← ensure (leZ (number-at 8 bs) (number-at 4 bs) && leZ (number-at 4 bs) (number-at 12 bs)) f
-  Ok (record { kind = k; policy = p; operator = c; owner = getD bs 3 0; initial = number-at 4 bs; low = number-at 8 bs; high = number-at 12 bs })
+  k ← from_some (numbered kind-number kinds (slice_index bs 0)) f
+  p ← from_some (numbered policy-number policies (slice_index bs 1)) f
+  c ← from_some (numbered combining-number combinings (slice_index bs 2)) f
+  _ ← ensure (zeros-right k (slice_index bs 1) (slice_index bs 2) (slice_index bs 3)) f
+  _ ← ensure (int_le (number_at 8 bs) (number_at 4 bs) && int_le (number_at 4 bs) (number_at 12 bs)) f
+  Ok (record { kind = k; policy = p; operator = c; owner = slice_index bs 3; initial = number_at 4 bs; low = number_at 8 bs; high = number_at 12 bs })
 
 -- Declarations in order; one that is cut is a cut, whatever it holds.
 abbrev pub read-declarations : (n end : ℕ) → List ℕ → Result (List Variable × List ℕ) LoadFault
 read-declarations zero e bs = Ok ([], bs)
 read-declarations (suc n) e bs = do
-  _ ← ensure (leb 16 (length bs)) (CutDeclaration (Cut (e - length bs)))
+  _ ← ensure (nat_le 16 (length bs)) (CutDeclaration (Cut (e - length bs)))
   d ← read-declaration (BadDeclaration (e - length bs)) (take 16 bs)
   ds ← read-declarations n e (drop 16 bs)
-  Ok (d ∷ ds .0, ds .1)
+  Ok (d ∷ ds.0, ds.1)
 
 -- ── after all bytes ──
 
@@ -297,7 +287,7 @@ read-declarations (suc n) e bs = do
 abbrev pub owners-live : (threads p : ℕ) → List Variable → Result (Unit {0}) LoadFault
 owners-live threads p [] = Ok tt
 owners-live threads p (d ∷ ds) = do
-  _ ← ensure (ltb (d .owner) threads) (BadDeclaration p)
+  _ ← ensure (nat_lt d.owner threads) (BadDeclaration p)
   owners-live threads (p + 16) ds
 
 -- Bytes of a statement before its blocks.
@@ -306,7 +296,7 @@ head-size s blocks = length (statement-bytes s) - blocks
 
 -- A pausing loop whose block may not pause.
 abbrev pub idle : {A : Type 0} → (bound : ℕ) → Block A → Bool
-idle bound X = eqb bound 0 && not (must-pause X)
+idle bound X = bound == 0 && not (must-pause X)
 
 -- In byte order, each pausing loop always pauses: p is the place, n the number, t the thread of the statement, u the number that the next arm takes.
 abbrev mutual
@@ -331,22 +321,22 @@ abbrev mutual
   loops-pause p n t u end = Ok tt
   loops-pause p n t u (s then B) = do
     _ ← statement-pauses p n t u s
-    loops-pause (p + length (statement-bytes s)) (n + count-of s) t (u + arms-of s) B
+    loops-pause (p + length (statement-bytes s)) (n + count_of s) t (u + arms_of s) B
 
 -- The count of variables, their declarations, main's block; then owners, pausing loops, tick length.
-abbrev pub read-all : (end : ℕ) → List ℕ → Result Program LoadFault
-read-all e [] = Err BadLength
-read-all e (n ∷ bs) = do
-  _ ← ensure (leb n most-variables) TooManyVariables
+abbrev pub read_all : (end : ℕ) → List ℕ → Result Program LoadFault
+read_all e [] = Err BadLength
+read_all e (n ∷ bs) = do
+  _ ← ensure (nat_le n most-variables) TooManyVariables
   ds ← read-declarations n e bs
-  B ← read-block (ds .0) most-nested 0 start e (ds .1)
-  _ ← owners-live (1 + arms B) 1 (ds .0)
+  B ← read-block ds.0 most-nested 0 start e ds.1
+  _ ← owners-live (1 + arms B) 1 ds.0
   _ ← loops-pause (1 + 16 * n) 0 0 1 B
-  _ ← ensure (leb (block-length B + 1) longest-tick) TickTooLong
-  Ok (record { variables = ds .0; main = B })
+  _ ← ensure (nat_le (block-length B + 1) longest-tick) TickTooLong
+  Ok (record { variables = ds.0; main = B })
 
 -- What loading bytes answers: 1 to 4,096 of them.
 abbrev pub read : List ℕ → Result Program LoadFault
 read bs = do
-  _ ← ensure (leb 1 (length bs) && leb (length bs) most-bytes) BadLength
-  read-all (length bs) bs
+  _ ← ensure (nat_le 1 (length bs) && nat_le (length bs) most_bytes) BadLength
+  read_all (length bs) bs

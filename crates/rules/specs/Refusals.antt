@@ -1,12 +1,10 @@
 -- The outside numbers of answers and refusals.
-use Prim.Native.Nat.{ℕ}
-use Rattle·std.specs.declared.option.Option.{Option}
-use Rattle·std.specs.declared.option.Option.the-variants.{Some, None}
-use Rattle·rules·specs.Faults.{load-number}
-use Rattle·rules·specs.declared.answers.Answer.{Answer}
-use Rattle·rules·specs.declared.answers.Answer.the-variants.{Accepted, Opened, Steps, Reported, Refused}
-use Rattle·rules·specs.declared.refusals.CallRefusal.{CallRefusal}
-use Rattle·rules·specs.declared.refusals.CallRefusal.the-variants.{Program, Memory, TickOpen, NothingLoaded, MainEnded, Readings, NoTick, NotReady, StepsRemain, Space}
+use Rattle.std.specs.Prelude.{ℕ, Some, None, Option}
+use Rattle.rules.specs.Faults.{load-number}
+use Rattle.rules.specs.declared.answers.Answer.{Answer}
+use Rattle.rules.specs.declared.answers.Answer.TheVariants.{Accepted, Opened, Steps, Reported, Refused}
+use Rattle.rules.specs.declared.refusals.CallRefusal.{CallRefusal}
+use Rattle.rules.specs.declared.refusals.CallRefusal.TheVariants.{Program, Memory, TickOpen, NothingLoaded, MainEnded, Readings, NoTick, NotReady, StepsRemain, Space}
 
 -- 1 to 10 a program's fault; 11 memory not 1,040 places; 12 tick open; 13 nothing loaded; 14 main ended; 15 readings not as many as inputs; 16 no tick open; 17 thread not ready or unknown; 18 steps remain; 19 space too small.
 abbrev pub call-number : CallRefusal → ℕ

@@ -1,24 +1,19 @@
 -- Runs: any list of calls from a new machine, and the left-to-right run that is fed the accepted loads and openings.
-use Prim.Native.Nat.{ℕ}
-use mathlib.Core.Bool.{Bool, true, false}
-use mathlib.Core.List.{List, [], _∷_}
-use lib.IntN.{ℤ}
-use Rattle·std.specs.declared.result.Result.{Result}
-use Rattle·std.specs.declared.result.Result.the-variants.{Ok, Err}
-use Rattle·arithmetic.specs.Meaning.{Meaning}
-use Rattle·rules·specs.Calls.{Call, load, open-tick, step-thread, close, finish, report, Machine, empty, perform}
-use Rattle·rules·specs.Numbering.{text-of}
-use Rattle·rules·specs.Reading.{read}
-use Rattle·rules·specs.Text.{Program}
-use Rattle·rules·specs.Threads.{Config}
-use Rattle·rules·specs.Ticks.{tick, loaded}
-use Rattle·rules·specs.declared.answers.Answer.{Answer}
-use Rattle·rules·specs.declared.answers.Answer.the-variants.{Accepted, Opened, Steps, Reported, Refused}
-use Rattle·rules·specs.declared.faults.LoadFault.{LoadFault}
+use Rattle.std.specs.Prelude.{ℕ, Bool, true, false, List, [], ◌∷◌, ℤ, Ok, Err, Result}
+use Rattle.arithmetic.specs.Meaning.{Meaning}
+use Rattle.rules.specs.Calls.{Call, load, open-tick, step-thread, close, finish, report, Machine, empty, perform}
+use Rattle.rules.specs.Numbering.{text_of}
+use Rattle.rules.specs.Reading.{read}
+use Rattle.rules.specs.Text.{Program}
+use Rattle.rules.specs.Threads.{Config}
+use Rattle.rules.specs.Ticks.{tick, loaded}
+use Rattle.rules.specs.declared.answers.Answer.{Answer}
+use Rattle.rules.specs.declared.answers.Answer.TheVariants.{Accepted, Opened, Steps, Reported, Refused}
+use Rattle.rules.specs.declared.faults.LoadFault.{LoadFault}
 
 -- The left-to-right run has its own program, stores, threads and the step count of its last tick.
 pub data Reference (V : Type 0) : Type 0 where
-  nothing-yet : Reference V
+  nothing_yet : Reference V
   having : (p : Program) (σ : Config V) (count : ℕ) → Reference V
 
 -- A call was accepted.
@@ -32,14 +27,14 @@ was-accepted (Refused r) = false
 module _ {V : Type 0} (M : Meaning V) where
   -- It reads the bytes of an accepted load for itself.
   abbrev pub load-reference : Reference V → Result Program LoadFault → Reference V
-  load-reference r (Ok p) = having p (loaded M (p .variables) (text-of p)) 0
+  load-reference r (Ok p) = having p (loaded M p.variables (text_of p)) 0
   load-reference r (Err f) = r
 
   -- A load sets all; an opening runs a whole tick left to right; other calls change nothing.
   abbrev pub feed-accepted : Call → Reference V → Reference V
   feed-accepted (load bs) r = load-reference r (read bs)
-  feed-accepted (open-tick rs) nothing-yet = nothing-yet
-  feed-accepted (open-tick rs) (having p σ c) = let t = tick M (p .variables) (text-of p) rs σ in having p (t .1) (t .0)
+  feed-accepted (open-tick rs) nothing_yet = nothing_yet
+  feed-accepted (open-tick rs) (having p σ c) = let t = tick M p.variables (text_of p) rs σ in having p t.1 t.0
   feed-accepted (step-thread t) r = r
   feed-accepted close r = r
   feed-accepted finish r = r
@@ -53,8 +48,8 @@ module _ {V : Type 0} (M : Meaning V) where
   -- The machine and the left-to-right run after a list of calls, the first call first.
   abbrev pub both-after : List Call → Machine V → Reference V → Machine V × Reference V
   both-after [] m r = (m, r)
-  both-after (c ∷ cs) m r = let a = perform M c m in both-after cs (a .1) (feed (was-accepted (a .0)) c r)
+  both-after (c ∷ cs) m r = let a = perform M c m in both-after cs a.1 (feed (was-accepted a.0) c r)
 
   -- From a new machine over a value memory of any length and content.
   abbrev pub after-calls : (memory : List V) → List Call → Machine V × Reference V
-  after-calls w cs = both-after cs (empty w) nothing-yet
+  after-calls w cs = both-after cs (empty w) nothing_yet

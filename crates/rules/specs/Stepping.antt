@@ -1,20 +1,14 @@
 -- Steps: the step of each statement, and the step of thread t among all threads.
-use Prim.Native.Nat.{ℕ, zero, suc, _-_}
-use mathlib.Core.Bool.{Bool, true, false, cond, _&&_, not}
-use mathlib.Core.List.{List}
-use lib.Dec.{eqb, ltb}
-use lib.ListN.{getD, set}
-use Rattle·std.specs.declared.option.Option.{Option}
-use Rattle·std.specs.declared.option.Option.the-variants.{Some, None}
-use Rattle·arithmetic.specs.Meaning.{Meaning}
-use Rattle·rules·specs.Going.{go-on, becomes, with-passes, with-mark}
-use Rattle·rules·specs.Joining.{for-each, with-arms, settle}
-use Rattle·rules·specs.Numbering.{Mark, Step, Text}
-use Rattle·rules·specs.Scopes.{is-shared}
-use Rattle·rules·specs.Text.{nothing, assign, pause, branch, loop, par, abort}
-use Rattle·rules·specs.Threads.{After, leave, on, again, out-of, Place, at, at-end, State, fresh, ready, waiting, held, paused, ended, past, out, Memo, Own, Arms, no-arms, both, Thread, thread, is, is-ready, waits}
-use Rattle·rules·specs.Values.{declared, zero-value, value, holds}
-use Rattle·rules·specs.Variables.{Variable}
+use Rattle.std.specs.Prelude.{ℕ, zero, suc, ◌-◌, Bool, true, false, cond, not, ◌&&◌, List, set, Some, None, Option, ◌==◌, nat_lt, slice_index_or, slice_set}
+use Rattle.arithmetic.specs.Meaning.{Meaning}
+use Rattle.rules.specs.Going.{go_on, becomes, with-passes, with-mark}
+use Rattle.rules.specs.Joining.{for-each, with-arms, settle}
+use Rattle.rules.specs.Numbering.{Mark, Step, Text}
+use Rattle.rules.specs.Scopes.{is_shared}
+use Rattle.rules.specs.Text.{nothing, assign, pause, branch, loop, par, abort}
+use Rattle.rules.specs.Threads.{After, leave, on, again, out_of, Place, at, at-end, State, fresh, ready, waiting, held, paused, ended, past, out, Memo, Own, Arms, no-arms, both, Thread, thread, is, is-ready, waits}
+use Rattle.rules.specs.Values.{declared, zero-value, value, holds}
+use Rattle.rules.specs.Variables.{Variable}
 
 -- A loop may be entered while passes are left, or if it has no bound.
 abbrev pub may-enter : (bound passes : ℕ) → Bool
@@ -31,18 +25,18 @@ ready-via down (Some a) = down a
 
 -- Thread t is ready at or below thread x: at x by its state, below it by the par that it waits at.
 abbrev pub ready-in : (x t : ℕ) → (ℕ → Bool) → State → Bool
-ready-in x t down s = elim (eqb t x) [ true ↦ is-ready s | false ↦ ready-via down (waits s) ]
+ready-in x t down s = elim (t == x) [ true ↦ is-ready s | false ↦ ready-via down (waits s) ]
 
 -- The first number if there is one, else the second.
-abbrev pub first-of : Option ℕ → Option ℕ → Option ℕ
-first-of None o = o
-first-of (Some t) o = Some t
+abbrev pub first_of : Option ℕ → Option ℕ → Option ℕ
+first_of None o = o
+first_of (Some t) o = Some t
 
 -- At or below thread x: itself if it is ready, what is below its par if it waits, else none.
 abbrev pub lowest-in : ℕ → (ℕ → Option ℕ) → State → Option ℕ
 lowest-in x down fresh = None
 lowest-in x down (ready p) = Some x
-lowest-in x down (waiting m B k) = down (m .next)
+lowest-in x down (waiting m B k) = down m.next
 lowest-in x down (held m B k) = None
 lowest-in x down (paused m B k) = None
 lowest-in x down ended = None
@@ -53,80 +47,80 @@ module _ {V : Type 0} where
   -- Thread t is ready below a thread that waits at the par whose first arm is n.
   abbrev pub ready-below : Arms V → (t n : ℕ) → Bool
   ready-below no-arms t n = false
-  ready-below (both a b l L r R rest) t n = elim (eqb n a) [
-    | true ↦ elim (ltb t b) [ true ↦ ready-in a t (ready-below L t) (l .state) | false ↦ ready-in b t (ready-below R t) (r .state) ]
+  ready-below (both a b l L r R rest) t n = elim (n == a) [
+    | true ↦ elim (nat_lt t b) [ true ↦ ready-in a t (ready-below L t) l.state | false ↦ ready-in b t (ready-below R t) r.state ]
     | false ↦ ready-below rest t n
   ]
 
   -- Thread t is ready.
   abbrev pub ready? : ℕ → Thread V → Bool
-  ready? t main = ready-in 0 t (ready-below (main .below) t) (main .own .state)
+  ready? t main = ready-in 0 t (ready-below main.below t) main.own.state
 
   -- Below the par whose first arm is n, the first arm's threads come before the second's.
   abbrev pub lowest-below : Arms V → ℕ → Option ℕ
   lowest-below no-arms n = None
-  lowest-below (both a b l L r R rest) n = elim (eqb n a) [
-    | true ↦ first-of (lowest-in a (lowest-below L) (l .state)) (lowest-in b (lowest-below R) (r .state))
+  lowest-below (both a b l L r R rest) n = elim (n == a) [
+    | true ↦ first_of (lowest-in a (lowest-below L) l.state) (lowest-in b (lowest-below R) r.state)
     | false ↦ lowest-below rest n
   ]
 
   -- The ready thread of the lowest number, if one is ready.
   abbrev pub lowest : Thread V → Option ℕ
-  lowest main = lowest-in 0 (lowest-below (main .below)) (main .own .state)
+  lowest main = lowest-in 0 (lowest-below main.below) main.own.state
 
   -- The first arm of a par, with all below it, becomes th; all else stays.
-  abbrev pub set-first : (a b : ℕ) → Thread V → Own V → Arms V → Arms V → Arms V
-  set-first a b th r R rest = both a b (th .own) (th .below) r R rest
+  abbrev pub set_first : (a b : ℕ) → Thread V → Own V → Arms V → Arms V → Arms V
+  set_first a b th r R rest = both a b th.own th.below r R rest
 
   -- The second arm of a par, with all below it, becomes th; all else stays.
   abbrev pub set-second : (a b : ℕ) → Own V → Arms V → Thread V → Arms V → Arms V
-  set-second a b l L th rest = both a b l L (th .own) (th .below) rest
+  set-second a b l L th rest = both a b l L th.own th.below rest
 
 module _ {V : Type 0} (M : Meaning V) (ds : List Variable) where
   -- Set limits the value, puts it there and, if shared, puts a set mark on the copy.
   abbrev pub assigned : ℕ → V → Memo V → Memo V
   assigned v x m = record {
-    values = set (m .values) v (M .limited (declared ds v .low) (declared ds v .high) x);
-    sets = cond (is-shared (declared ds v .kind)) (set (m .sets) v true) (m .sets);
-    passes = m .passes;
-    marks = m .marks;
+    values = slice_set m.values v (M.limited (declared ds v).low (declared ds v).high x);
+    sets = cond (is_shared (declared ds v).kind) (slice_set m.sets v true) m.sets;
+    passes = m.passes;
+    marks = m.marks;
   }
 
   -- An arm takes the parent's copy of a shared variable; its private stays.
   abbrev pub arm-value : (parent arm : Memo V) → ℕ → V
-  arm-value parent m v = cond (is-shared (declared ds v .kind)) (getD (parent .values) v (zero-value M)) (getD (m .values) v (zero-value M))
+  arm-value parent m v = cond (is_shared (declared ds v).kind) (slice_index_or parent.values v (zero-value M)) (slice_index_or m.values v (zero-value M))
 
   -- An arm begins with the parent's copies and no set marks; privates are not copied, passes left and abort marks stay.
   abbrev pub arm-memo : (parent arm : Memo V) → Memo V
   arm-memo parent m = record {
     values = for-each ds 0 (arm-value parent m);
     sets = for-each ds 0 (λ v. false);
-    passes = m .passes;
-    marks = m .marks;
+    passes = m.passes;
+    marks = m.marks;
   }
 
   -- An arm begins ready at its first statement, or at its end if it has none.
   abbrev pub begins : Memo V → Text → Own V → Own V
-  begins parent X o = go-on X leave (arm-memo parent (o .memo))
+  begins parent X o = go_on X leave (arm-memo parent o.memo)
 
   module _ (stores : List V) where
     -- The step of a ready thread, by where it is.
     abbrev pub act : Place → Memo V → Arms V → Thread V
     act at-end m F = thread (is ended m) F
-    act (at (nothing a) B k) m F = thread (go-on B k m) F
-    act (at (assign a v e) B k) m F = thread (go-on B k (assigned v (value M ds stores m e) m)) F
+    act (at (nothing a) B k) m F = thread (go_on B k m) F
+    act (at (assign a v e) B k) m F = thread (go_on B k (assigned v (value M ds stores m e) m)) F
     act (at (pause a) B k) m F = becomes (paused a B k) k m F
-    act (at (branch a e X Y) B k) m F = elim (holds M ds stores m e) [ true ↦ thread (go-on X (on B k) m) F | false ↦ thread (go-on Y (on B k) m) F ]
-    act (at (loop a bound e X) B k) m F = elim (holds M ds stores m e && may-enter bound (m .passes (a .number))) [
-      | true ↦ thread (go-on X (again a bound e X B k) (with-passes (a .number) (m .passes (a .number) - 1) m)) F
-      | false ↦ thread (go-on B k m) F
+    act (at (branch a e X Y) B k) m F = elim (holds M ds stores m e) [ true ↦ thread (go_on X (on B k) m) F | false ↦ thread (go_on Y (on B k) m) F ]
+    act (at (loop a bound e X) B k) m F = elim (holds M ds stores m e && may-enter bound (m.passes a.number)) [
+      | true ↦ thread (go_on X (again a bound e X B k) (with-passes a.number (m.passes a.number - 1) m)) F
+      | false ↦ thread (go_on B k m) F
     ]
-    act (at (par a X Y) B k) m F = thread (is (waiting a B k) m) (with-arms (a .next) (begins m X) (begins m Y) F)
+    act (at (par a X Y) B k) m F = thread (is (waiting a B k) m) (with-arms a.next (begins m X) (begins m Y) F)
     act (at (abort a w i e X) B k) m F =
         let h = i && holds M ds stores m e in
         elim (h && not w) [
-          | true ↦ thread (go-on B k (with-mark (a .number) h m)) F
-          | false ↦ thread (go-on X (out-of a w e B k) (with-mark (a .number) h m)) F
+          | true ↦ thread (go_on B k (with-mark a.number h m)) F
+          | false ↦ thread (go_on X (out_of a w e B k) (with-mark a.number h m)) F
         ]
 
     -- A thread that is not ready does nothing.
@@ -143,23 +137,23 @@ module _ {V : Type 0} (M : Meaning V) (ds : List Variable) where
     -- Below a waiting thread the step is done first, then the thread joins if it can; a thread that waits at no par stays.
     abbrev pub step-via : (ℕ → Arms V) → Option ℕ → Own V → Arms V → Thread V
     step-via down None o F = thread o F
-    step-via down (Some a) o F = settle M ds (o .state) (o .memo) (down a)
+    step-via down (Some a) o F = settle M ds o.state o.memo (down a)
 
     -- The step of thread t goes down through waiting threads to t, and joins on the way back.
-    abbrev pub step-in : (x t : ℕ) → (ℕ → Arms V) → Own V → Arms V → Thread V
-    step-in x t down o F = elim (eqb t x) [ true ↦ own-step (o .state) (o .memo) F | false ↦ step-via down (waits (o .state)) o F ]
+    abbrev pub step_in : (x t : ℕ) → (ℕ → Arms V) → Own V → Arms V → Thread V
+    step_in x t down o F = elim (t == x) [ true ↦ own-step o.state o.memo F | false ↦ step-via down (waits o.state) o F ]
 
     -- Below the par whose first arm is n, numbers under the second arm's are in the first arm, others in the second.
     abbrev pub step-below : Arms V → (t n : ℕ) → Arms V
     step-below no-arms t n = no-arms
-    step-below (both a b l L r R rest) t n = elim (eqb n a) [
-      | true ↦ elim (ltb t b) [
-        | true ↦ set-first a b (step-in a t (step-below L t) l L) r R rest
-        | false ↦ set-second a b l L (step-in b t (step-below R t) r R) rest
+    step-below (both a b l L r R rest) t n = elim (n == a) [
+      | true ↦ elim (nat_lt t b) [
+        | true ↦ set_first a b (step_in a t (step-below L t) l L) r R rest
+        | false ↦ set-second a b l L (step_in b t (step-below R t) r R) rest
       ]
       | false ↦ both a b l L r R (step-below rest t n)
     ]
 
     -- The step of thread t.
     abbrev pub step : ℕ → Thread V → Thread V
-    step t main = step-in 0 t (step-below (main .below) t) (main .own) (main .below)
+    step t main = step_in 0 t (step-below main.below t) main.own main.below

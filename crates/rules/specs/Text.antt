@@ -1,15 +1,13 @@
 -- The text of a program: statements and blocks as a tree, and what is counted in it.
-use Prim.Native.Nat.{ℕ, _+_, _*_, max}
-use mathlib.Core.Bool.{Bool}
-use mathlib.Core.List.{List}
-use Rattle·evaluator.specs.Commands.{Command}
-use Rattle·rules·specs.Variables.{Variable}
+use Rattle.std.specs.Prelude.{ℕ, ◌+◌, ◌*◌, max, Bool, List}
+use Rattle.evaluator.specs.Commands.{Command}
+use Rattle.rules.specs.Variables.{Variable}
 
 -- An expression is its commands.
 abbrev pub Expression : Type 0
 Expression = List Command
 
-infixr 30 _then_
+infixr 30 ◌then◌
 -- Statements and blocks. Each statement carries a note of type A: none in the text as it is read, its number and more in the text as it is run.
 mutual
   -- Nothing, set, pause, if with two blocks, loop with its bound, par with two arms, abort with its two flags.
@@ -25,7 +23,7 @@ mutual
   -- A block is statements one after the other, perhaps none.
   pub data Block (A : Type 0) : Type 0 where
     end : Block A
-    _then_ : Stmt A → Block A → Block A
+    ◌then◌ : Stmt A → Block A → Block A
 
 -- A program: what is declared of its variables, and main's block.
 pub record Program : Type 0 where
@@ -35,19 +33,19 @@ pub record Program : Type 0 where
 -- How many statements.
 abbrev mutual
   -- A statement counts 1 and the statements of its blocks.
-  pub count-of : {A : Type 0} → Stmt A → ℕ
-  count-of (nothing a) = 1
-  count-of (assign a v e) = 1
-  count-of (pause a) = 1
-  count-of (branch a e X Y) = 1 + (count X + count Y)
-  count-of (loop a bound e X) = 1 + count X
-  count-of (par a X Y) = 1 + (count X + count Y)
-  count-of (abort a w i e X) = 1 + count X
+  pub count_of : {A : Type 0} → Stmt A → ℕ
+  count_of (nothing a) = 1
+  count_of (assign a v e) = 1
+  count_of (pause a) = 1
+  count_of (branch a e X Y) = 1 + (count X + count Y)
+  count_of (loop a bound e X) = 1 + count X
+  count_of (par a X Y) = 1 + (count X + count Y)
+  count_of (abort a w i e X) = 1 + count X
 
   -- A block counts what its statements count.
   pub count : {A : Type 0} → Block A → ℕ
   count end = 0
-  count (s then B) = count-of s + count B
+  count (s then B) = count_of s + count B
 
 -- How many pars.
 abbrev mutual
@@ -67,8 +65,8 @@ abbrev mutual
   pars (s then B) = pars-of s + pars B
 
 -- How many threads begin in a statement: each par has two arms.
-abbrev pub arms-of : {A : Type 0} → Stmt A → ℕ
-arms-of s = 2 * pars-of s
+abbrev pub arms_of : {A : Type 0} → Stmt A → ℕ
+arms_of s = 2 * pars-of s
 
 -- How many threads begin in a block: each par has two arms.
 abbrev pub arms : {A : Type 0} → Block A → ℕ

@@ -1,18 +1,14 @@
 -- Threads: what each has of its own, and where it is in its text.
-use Prim.Native.Nat.{ℕ}
-use mathlib.Core.Bool.{Bool, true, false}
-use mathlib.Core.List.{List}
-use Rattle·std.specs.declared.option.Option.{Option}
-use Rattle·std.specs.declared.option.Option.the-variants.{Some, None}
-use Rattle·rules·specs.Numbering.{Mark, Step, Text}
-use Rattle·rules·specs.Text.{Expression}
+use Rattle.std.specs.Prelude.{ℕ, Bool, true, false, List, Some, None, Option}
+use Rattle.rules.specs.Numbering.{Mark, Step, Text}
+use Rattle.rules.specs.Text.{Expression}
 
 -- What a thread does when the block at hand ends: its text ends; it goes on after an if; it goes back to a loop's test; it goes on after an abort.
 pub data After : Type 0 where
   leave : After
   on : (B : Text) (k : After) → After
   again : (m : Mark) (bound : ℕ) (e : Expression) (X B : Text) (k : After) → After
-  out-of : (m : Mark) (weak : Bool) (e : Expression) (B : Text) (k : After) → After
+  out_of : (m : Mark) (weak : Bool) (e : Expression) (B : Text) (k : After) → After
 
 -- A ready thread is at a statement, with the rest of its block and what comes after that, or at its text's end.
 pub data Place : Type 0 where
@@ -87,15 +83,15 @@ over past = true
 over out = false
 
 -- Past arms take no part in a join.
-abbrev pub takes-part : State → Bool
-takes-part fresh = true
-takes-part (ready p) = true
-takes-part (waiting m B k) = true
-takes-part (held m B k) = true
-takes-part (paused m B k) = true
-takes-part ended = true
-takes-part past = false
-takes-part out = true
+abbrev pub takes_part : State → Bool
+takes_part fresh = true
+takes_part (ready p) = true
+takes_part (waiting m B k) = true
+takes_part (held m B k) = true
+takes_part (paused m B k) = true
+takes_part ended = true
+takes_part past = false
+takes_part out = true
 
 -- Ready: what a thread has to be for a step.
 abbrev pub is-ready : State → Bool
@@ -123,7 +119,7 @@ is-ended out = false
 abbrev pub waits : State → Option ℕ
 waits fresh = None
 waits (ready p) = None
-waits (waiting m B k) = Some (m .next)
+waits (waiting m B k) = Some m.next
 waits (held m B k) = None
 waits (paused m B k) = None
 waits ended = None

@@ -1,33 +1,27 @@
 -- Valid programs: every rule that an accepted program keeps.
-use Prim.Native.Nat.{ℕ, _+_, _-_, _≤_, _<_}
-use mathlib.Core.Bool.{Bool, true}
-use mathlib.Core.List.{List, [], _∷_}
-use mathlib.Core.Path.{_≡_}
-use lib.ListN.{length}
-use lib.Signed.{_≤ℤ_}
-use mir.Syntax.{w32}
-use mir.Val.{SFits}
-use Rattle·std.specs.shelf.Lists.{All}
-use Rattle·arithmetic.specs.Operators.{combining-number}
-use Rattle·evaluator.specs.Commands.{Writable, written}
-use Rattle·evaluator.specs.Evaluating.{deepest, longest}
-use Rattle·evaluator.specs.Evaluating.{most-variables}
-use Rattle·rules·specs.Encoding.{encode, policy-number}
-use Rattle·rules·specs.Lengths.{must-pause, tick-length, longest-tick}
-use Rattle·rules·specs.Reading.{most-bytes, most-statements, most-pars, most-nested, takes, command-readable, zeros-right}
-use Rattle·rules·specs.Scopes.{settable}
-use Rattle·rules·specs.Text.{Expression, Stmt, nothing, assign, pause, branch, loop, par, abort, Block, end, _then_, Program, count, pars, arms, arms-of, depth}
-use Rattle·rules·specs.Variables.{Variable}
+use Rattle.std.specs.Prelude.{◌≡◌, ℕ, ◌+◌, ◌-◌, ◌<◌, ◌≤◌, Bool, true, List, [], ◌∷◌, length, ◌≤ℤ◌, FitsSigned}
+use Rattle.std.specs.Int.{w32}
+use Rattle.std.specs.List.{AllByRecursion as All}
+use Rattle.arithmetic.specs.Operators.{combining-number}
+use Rattle.evaluator.specs.Commands.{Writable, written}
+use Rattle.evaluator.specs.Evaluating.{deepest, longest}
+use Rattle.evaluator.specs.Evaluating.{most-variables}
+use Rattle.rules.specs.Encoding.{encode, policy-number}
+use Rattle.rules.specs.Lengths.{must-pause, tick-length, longest-tick}
+use Rattle.rules.specs.Reading.{most_bytes, most-statements, most-pars, most-nested, takes, command-readable, zeros-right}
+use Rattle.rules.specs.Scopes.{settable}
+use Rattle.rules.specs.Text.{Expression, Stmt, nothing, assign, pause, branch, loop, par, abort, Block, end, ◌then◌, Program, count, pars, arms, arms_of, depth}
+use Rattle.rules.specs.Variables.{Variable}
 
 -- A declaration of a program with so many threads: zeros where they belong, low ≤ initial ≤ high, all of 32 bits, an owner that is one of the threads.
 pub record Declared (threads : ℕ) (d : Variable) : Type 0 where
-  pub zeros : zeros-right (d .kind) (policy-number (d .policy)) (combining-number (d .operator)) (d .owner) ≡ true
-  pub not-under : d .low ≤ℤ d .initial
-  pub not-over : d .initial ≤ℤ d .high
-  pub low-fits : SFits w32 (d .low)
-  pub initial-fits : SFits w32 (d .initial)
-  pub high-fits : SFits w32 (d .high)
-  pub owner-lives : d .owner < threads
+  pub zeros : zeros-right d.kind (policy-number d.policy) (combining-number d.operator) d.owner ≡ true
+  pub not-under : d.low ≤ℤ d.initial
+  pub not-over : d.initial ≤ℤ d.high
+  pub low_fits : FitsSigned w32 d.low
+  pub initial-fits : FitsSigned w32 d.initial
+  pub high_fits : FitsSigned w32 d.high
+  pub owner-lives : d.owner < threads
 
 -- From d stacked values each command finds the values that it takes, at most 16 are stacked, and one remains; constants can be written, variables are ones that thread t reads.
 abbrev pub Stacks-right : List Variable → (t d : ℕ) → Expression → Type 0
@@ -53,7 +47,7 @@ abbrev mutual
   -- Each statement is right, and takes the arm numbers after those before it.
   pub Right-block : List Variable → (t u : ℕ) → Block (Unit {0}) → Type 0
   Right-block ds t u end = Unit {0}
-  Right-block ds t u (s then B) = Right-statement ds t u s × Right-block ds t (u + arms-of s) B
+  Right-block ds t u (s then B) = Right-statement ds t u s × Right-block ds t (u + arms_of s) B
 
 -- In statements and blocks, the block of each pausing loop always pauses.
 abbrev mutual
@@ -74,12 +68,12 @@ abbrev mutual
 
 -- The limits are kept, declarations and statements are right, pausing loops pause, a tick is not too long.
 pub record Valid (p : Program) : Type 0 where
-  pub short-enough : length (encode p) ≤ most-bytes
-  pub few-variables : length (p .variables) ≤ most-variables
-  pub declared : All (Declared (1 + arms (p .main))) (p .variables)
-  pub few-statements : count (p .main) ≤ most-statements
-  pub few-pars : pars (p .main) ≤ most-pars
-  pub shallow : depth (p .main) ≤ most-nested
-  pub right : Right-block (p .variables) 0 1 (p .main)
-  pub pausing : Pausing (p .main)
+  pub short-enough : length (encode p) ≤ most_bytes
+  pub few-variables : length p.variables ≤ most-variables
+  pub declared : All (Declared (1 + arms p.main)) p.variables
+  pub few-statements : count p.main ≤ most-statements
+  pub few-pars : pars p.main ≤ most-pars
+  pub shallow : depth p.main ≤ most-nested
+  pub right : Right-block p.variables 0 1 p.main
+  pub pausing : Pausing p.main
   pub in-time : tick-length p ≤ longest-tick

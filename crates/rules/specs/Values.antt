@@ -1,26 +1,18 @@
 -- Values in a thread: variables, expressions, conditions.
-use Prim.Native.Nat.{ℕ}
-use mathlib.Core.Bool.{Bool, true, false, not, cond}
-use mathlib.Core.List.{List, [], _∷_, map}
-use lib.IntN.{ℤ, pos}
-use lib.ListN.{getD}
-use Rattle·std.specs.declared.option.Option.{Option}
-use Rattle·std.specs.declared.option.Option.the-variants.{Some, None}
-use Rattle·std.specs.declared.result.Result.{Result}
-use Rattle·std.specs.declared.result.Result.the-variants.{Ok, Err}
-use Rattle·arithmetic.specs.Meaning.{Meaning}
-use Rattle·arithmetic.specs.Plain.{same}
-use Rattle·arithmetic.specs.declared.operators.Combining.the-variants.{Sum}
-use Rattle·evaluator.specs.Commands.{Command, Placed}
-use Rattle·evaluator.specs.Evaluating.{run, only}
-use Rattle·evaluator.specs.Outcomes.{and-then}
-use Rattle·bounds.specs.declared.refusal.Refusal.{Refusal}
-use Rattle·rules·specs.Scopes.{is-input}
-use Rattle·rules·specs.Text.{Expression}
-use Rattle·rules·specs.Threads.{Memo}
-use Rattle·rules·specs.declared.program.Kind.the-variants as Kind
-use Rattle·rules·specs.declared.program.Policy.the-variants as Policy
-use Rattle·rules·specs.Variables.{Variable}
+use Rattle.std.specs.Prelude.{ℕ, Bool, true, false, cond, not, List, [], ◌∷◌, map, ℤ, pos, Some, None, Ok, Err, Option, Result, slice_index_or}
+use Rattle.arithmetic.specs.Meaning.{Meaning}
+use Rattle.arithmetic.specs.Plain.{same}
+use Rattle.arithmetic.specs.declared.operators.Combining.TheVariants.{Sum}
+use Rattle.evaluator.specs.Commands.{Command, Placed}
+use Rattle.evaluator.specs.Evaluating.{run, only}
+use Rattle.evaluator.specs.Outcomes.{and_then}
+use Rattle.bounds.specs.declared.refusal.Refusal.{Refusal}
+use Rattle.rules.specs.Scopes.{is-input}
+use Rattle.rules.specs.Text.{Expression}
+use Rattle.rules.specs.Threads.{Memo}
+use Rattle.rules.specs.declared.program.Kind.TheVariants as Kind
+use Rattle.rules.specs.declared.program.Policy.TheVariants as Policy
+use Rattle.rules.specs.Variables.{Variable}
 
 -- What stands for a variable that is not declared; no accepted program names one.
 abbrev pub undeclared : Variable
@@ -28,7 +20,7 @@ undeclared = record { kind = Kind.Input; policy = Policy.All; operator = Sum; ow
 
 -- The declaration of variable v.
 abbrev pub declared : List Variable → ℕ → Variable
-declared ds v = getD ds v undeclared
+declared ds v = slice_index_or ds v undeclared
 
 -- A command without a place.
 abbrev pub unplaced : Command → Placed
@@ -37,7 +29,7 @@ unplaced c = record { place = 0; command = Some c }
 module _ {V : Type 0} (M : Meaning V) where
   -- The value of the constant 0.
   abbrev pub zero-value : V
-  zero-value = M .constant (pos 0)
+  zero-value = M.constant (pos 0)
 
   -- An accepted expression always has a value; 0 stands for what cannot come.
   abbrev pub value-or-zero : Result V Refusal → V
@@ -46,16 +38,16 @@ module _ {V : Type 0} (M : Meaning V) where
 
   -- Conditions hold when the shown number is not 0.
   abbrev pub condition : V → Bool
-  condition x = not (same (M .shows x) (pos 0))
+  condition x = not (same (M.shows x) (pos 0))
 
   module _ (ds : List Variable) (stores : List V) where
     -- Inputs are read in the stores, privates and copies of shared variables in what belongs to the thread.
     abbrev pub variable-value : Memo V → ℕ → V
-    variable-value m v = cond (is-input (declared ds v .kind)) (getD stores v zero-value) (getD (m .values) v zero-value)
+    variable-value m v = cond (is-input (declared ds v).kind) (slice_index_or stores v zero-value) (slice_index_or m.values v zero-value)
 
     -- The value of an expression in a thread.
     abbrev pub value : Memo V → Expression → V
-    value m e = value-or-zero (and-then (run M (λ v. Some (variable-value m v)) (map unplaced e) []) only)
+    value m e = value-or-zero (and_then (run M (λ v. Some (variable-value m v)) (map unplaced e) []) only)
 
     -- A thread's condition holds when the value of its expression does not show 0.
     abbrev pub holds : Memo V → Expression → Bool

@@ -1,9 +1,8 @@
 -- What a program declares of its variables.
-use Prim.Native.Nat.{ℕ}
-use lib.IntN.{ℤ}
-use Rattle·arithmetic.specs.declared.operators.Combining.{Combining}
-use Rattle·rules·specs.declared.program.Kind.{Kind}
-use Rattle·rules·specs.declared.program.Policy.{Policy}
+use Rattle.std.specs.Prelude.{ℕ, ℤ}
+use Rattle.arithmetic.specs.declared.operators.Combining.{Combining}
+use Rattle.rules.specs.declared.program.Kind.{Kind}
+use Rattle.rules.specs.declared.program.Policy.{Policy}
 
 -- A variable: its kind, which copies a join takes and how it combines them, the thread of a private, the initial value, and its limits.
 pub record Variable : Type 0 where

@@ -1,52 +1,46 @@
 -- Worked numbers: small programs, with the steps and the rate of each tick.
-use Prim.Native.Nat.{ℕ, zero, suc}
-use mathlib.Core.Bool.{Bool, true, false}
-use mathlib.Core.List.{List, [], _∷_}
-use mathlib.Core.Path.{_≡_}
-use lib.IntN.{ℤ, pos, negsuc}
-use lib.ListN.{getD}
-use Rattle·std.specs.declared.result.Result.the-variants.{Ok, Err}
-use Rattle·arithmetic.specs.Plain.{plain}
-use Rattle·arithmetic.specs.declared.operators.Combining.{Combining}
-use Rattle·arithmetic.specs.declared.operators.Combining.the-variants.{Sum, Least, Left}
-use Rattle·arithmetic.specs.declared.operators.Operator.the-variants.{Add, LessThan, Equal}
-use Rattle·evaluator.specs.Commands.{constant, variable, operator}
-use Rattle·rules·specs.Encoding.{encode}
-use Rattle·rules·specs.Lengths.{tick-length}
-use Rattle·rules·specs.Numbering.{text-of}
-use Rattle·rules·specs.Opening.{opening}
-use Rattle·rules·specs.Reading.{read}
-use Rattle·rules·specs.Stepping.{ready?, step}
-use Rattle·rules·specs.Text.{Expression, Stmt, nothing, assign, pause, branch, loop, par, abort, Block, end, _then_, Program}
-use Rattle·rules·specs.Threads.{Thread, Config, is-ended}
-use Rattle·rules·specs.Ticks.{closing, tick, loaded}
-use Rattle·rules·specs.Memory.{store-at}
-use Rattle·rules·specs.declared.faults.LoadFault.the-variants.{TickTooLong}
-use Rattle·rules·specs.declared.program.Kind.{Kind}
-use Rattle·rules·specs.declared.program.Kind.the-variants.{Output, Shared, Private}
-use Rattle·rules·specs.declared.program.Policy.{Policy}
-use Rattle·rules·specs.declared.program.Policy.the-variants.{All, New, Mod}
-use Rattle·rules·specs.Variables.{Variable}
+use Rattle.std.specs.Prelude.{◌≡◌, ℕ, zero, suc, Bool, true, false, List, [], ◌∷◌, get_or, ℤ, pos, negsuc, Ok, Err}
+use Rattle.arithmetic.specs.Plain.{plain}
+use Rattle.arithmetic.specs.declared.operators.Combining.{Combining}
+use Rattle.arithmetic.specs.declared.operators.Combining.TheVariants.{Sum, Least, Left}
+use Rattle.arithmetic.specs.declared.operators.Operator.TheVariants.{Add, LessThan, Equal}
+use Rattle.evaluator.specs.Commands.{constant, variable, operator}
+use Rattle.rules.specs.Encoding.{encode}
+use Rattle.rules.specs.Lengths.{tick-length}
+use Rattle.rules.specs.Numbering.{text_of}
+use Rattle.rules.specs.Opening.{opening}
+use Rattle.rules.specs.Reading.{read}
+use Rattle.rules.specs.Stepping.{ready?, step}
+use Rattle.rules.specs.Text.{Expression, Stmt, nothing, assign, pause, branch, loop, par, abort, Block, end, ◌then◌, Program}
+use Rattle.rules.specs.Threads.{Thread, Config, is-ended}
+use Rattle.rules.specs.Ticks.{closing, tick, loaded}
+use Rattle.rules.specs.Memory.{store_at}
+use Rattle.rules.specs.declared.faults.LoadFault.TheVariants.{TickTooLong}
+use Rattle.rules.specs.declared.program.Kind.{Kind}
+use Rattle.rules.specs.declared.program.Kind.TheVariants.{Output, Shared, Private}
+use Rattle.rules.specs.declared.program.Policy.{Policy}
+use Rattle.rules.specs.declared.program.Policy.TheVariants.{All, New, Mod}
+use Rattle.rules.specs.Variables.{Variable}
 
 -- The steps of n ticks without readings, each with what variable 0 shows after it.
 abbrev pub ticks-from : Program → ℕ → Config ℤ → List (ℕ × ℤ)
 ticks-from p zero σ = []
 ticks-from p (suc n) σ =
-    let r = tick plain (p .variables) (text-of p) [] σ in
-    (r .0, plain .shows (store-at plain (p .variables) (r .1) 0)) ∷ ticks-from p n (r .1)
+    let r = tick plain p.variables (text_of p) [] σ in
+    (r.0, plain.shows (store_at plain p.variables r.1 0)) ∷ ticks-from p n r.1
 
 -- The first n ticks after a load.
 abbrev pub ticks : ℕ → Program → List (ℕ × ℤ)
-ticks n p = ticks-from p n (loaded plain (p .variables) (text-of p))
+ticks n p = ticks-from p n (loaded plain p.variables (text_of p))
 
 -- The stores and threads after n ticks without readings.
 abbrev pub after-ticks : Program → ℕ → Config ℤ → Config ℤ
 after-ticks p zero σ = σ
-after-ticks p (suc n) σ = after-ticks p n (tick plain (p .variables) (text-of p) [] σ .1)
+after-ticks p (suc n) σ = after-ticks p n (tick plain p.variables (text_of p) [] σ).1
 
 -- Main is ended after n ticks of a program without readings.
 abbrev pub ended-after : ℕ → Program → Bool
-ended-after n p = is-ended (after-ticks p n (loaded plain (p .variables) (text-of p)) .main .own .state)
+ended-after n p = is-ended (after-ticks p n (loaded plain p.variables (text_of p))).main.own.state
 
 -- The threads of the list step in its order, up to the first that is not ready; with the count of steps.
 abbrev pub steps-in-order : List Variable → (stores : List ℤ) → List ℕ → (count : ℕ) → Thread ℤ → ℕ × Thread ℤ
@@ -56,9 +50,9 @@ steps-in-order ds ss (t ∷ ts) c th = elim (ready? t th) [ true ↦ steps-in-or
 -- The first tick with its threads stepped in the order of the list: the steps, and what variable 0 shows after the closing.
 abbrev pub tick-in-order : List ℕ → Program → ℕ × ℤ
 tick-in-order ts p =
-    let σ = opening plain (p .variables) (text-of p) [] (loaded plain (p .variables) (text-of p)) in
-    let e = steps-in-order (p .variables) (σ .stores) ts 0 (σ .main) in
-    (e .0, plain .shows (store-at plain (p .variables) (closing plain (p .variables) (record { stores = σ .stores; main = e .1 })) 0))
+    let σ = opening plain p.variables (text_of p) [] (loaded plain p.variables (text_of p)) in
+    let e = steps-in-order p.variables σ.stores ts 0 σ.main in
+    (e.0, plain.shows (store_at plain p.variables (closing plain p.variables (record { stores = σ.stores; main = e.1 })) 0))
 
 -- The bytes that a program is written as are read as that program.
 abbrev pub Readable : Program → Type 0
@@ -156,7 +150,7 @@ pub record Worked-numbers : Type 0 where
   pub longest-accepted : tick-length (nested-loops 233) ≡ 59927
   pub longest-read : Readable (nested-loops 233)
   pub longest-steps : ticks 1 (nested-loops 233) ≡ (59927, pos 0) ∷ []
-  pub too-long : tick-length (nested-loops 234) ≡ 60182
+  pub too_long : tick-length (nested-loops 234) ≡ 60182
   pub too-long-refused : read (encode (nested-loops 234)) ≡ Err TickTooLong
   pub all-sum : ticks 2 (two-arms All Sum 30 80) ≡ (5, pos 100) ∷ (2, pos 100) ∷ []
   pub past-arm : ticks 2 (two-arms All Sum 30 40) ≡ (5, pos 70) ∷ (2, pos 70) ∷ []

@@ -1,9 +1,8 @@
 //! What a call to a controller answers.
-ghost use mathlib.Core.Path.{_≡_};
-ghost use Rattle·rules·specs.Refusals.{answered-count, answered-refusal};
+ghost use Rattle.std.specs.Prelude.{◌≡◌};
+ghost use Rattle.rules.specs.Refusals.{answered-count, answered-refusal};
+
 use crate::refusals::CallRefusal;
-use crate::refusals::CallRefusalDebug;
-use crate::refusals::CallRefusalPartialEq;
 
 /// What a call answers: an accepted load or step no number, an opening the open tick, a closing or finishing the count of steps, an accepted report no number, any refused call why.
 #[derive(Clone, Copy, PartialEq, Eq, Debug)]
@@ -18,7 +17,7 @@ pub enum Answer {
 impl Answer {
     /// The count of steps that a closing or finishing answered.
     pub fn count(self) -> Option<u16>
-        ensures { λ r. ⌜ r ≡ answered-count self ⌝ }
+        ensures { result ≡ answered-count self }
     {
         match self {
             Answer::Steps(count) => Some(count),
@@ -28,7 +27,7 @@ impl Answer {
 
     /// The number by which the outside world knows the refusal.
     pub fn refusal(self) -> Option<u8>
-        ensures { λ r. ⌜ r ≡ answered-refusal self ⌝ }
+        ensures { result ≡ answered-refusal self }
     {
         match self {
             Answer::Refused(refusal) => Some(refusal.number()),

@@ -1,9 +1,8 @@
 //! Why a call is refused.
-ghost use mathlib.Core.Path.{_≡_};
-ghost use Rattle·rules·specs.Refusals.{call-number};
+ghost use Rattle.std.specs.Prelude.{◌≡◌};
+ghost use Rattle.rules.specs.Refusals.{call-number};
+
 use crate::faults::LoadFault;
-use crate::faults::LoadFaultDebug;
-use crate::faults::LoadFaultPartialEq;
 
 /// Why a call to a controller is refused.
 #[derive(Clone, Copy, PartialEq, Eq, Debug)]
@@ -23,7 +22,7 @@ pub enum CallRefusal {
 impl CallRefusal {
     /// The number by which the outside world knows the refusal.
     pub fn number(self) -> u8
-        ensures { λ r. ⌜ r ≡ call-number self ⌝ }
+        ensures { result ≡ call-number self }
     {
         match self {
             CallRefusal::Program(fault) => fault.number(),

@@ -1,29 +1,24 @@
 -- What a stack over lent places holds.
-use Prim.Native.Nat.{ℕ, _-_}
-use mathlib.Core.List.{List, [], _∷_, reverse}
-use lib.ListN.{length, take, drop}
-use denote.Ref.{now}
-use Rattle·std.specs.shelf.Maps.{nth}
-use Rattle·std.specs.declared.option.Option.{Option}
-use Rattle·std.specs.declared.option.Option.the-variants.{Some, None}
-use Rattle·stack·specs.declared.Stack.{Stack}
+use Rattle.std.specs.Prelude.{ℕ, ◌-◌, List, [], ◌∷◌, reverse, length, take, drop, Some, None, Option}
+use Rattle.std.specs.List.{slice_get}
+use Rattle.stack.specs.declared.Stack.{Stack}
 
 module _ {T : Type 0} where
   -- The stacked values are `depth` places from the base on, the last pushed first.
   abbrev pub stacked : Stack T → List T
-  stacked s = reverse (take (s .depth) (drop (s .base) (now (s .places))))
+  stacked s = reverse (take s.depth (drop s.base s.places.now))
 
   -- As many values can be stacked at once as there are places from the base on.
   abbrev pub room : Stack T → ℕ
-  room s = length (now (s .places)) - s .base
+  room s = length s.places.now - s.base
 
   -- The places before the base are no part of the stack.
   abbrev pub before-base : Stack T → List T
-  before-base s = take (s .base) (now (s .places))
+  before-base s = take s.base s.places.now
 
   -- What place i holds, if it is a place before the base.
   abbrev pub place-before : Stack T → ℕ → Option T
-  place-before s i = nth (before-base s) i
+  place-before s i = slice_get (before-base s) i
 
 -- A pop takes the value that was pushed last, and none where nothing is stacked.
 abbrev pub popped-value : {T : Type 0} → List T → Option T

@@ -1,7 +1,5 @@
 //! A stack over places that are lent to it.
-ghost use Prim.Native.Nat.{_+_, _≤_};
-ghost use denote.Ref.{now};
-ghost use lib.ListN.{length};
+ghost use Rattle.std.specs.Prelude.{◌+◌, ◌≤◌, length};
 
 pub mod methods;
 #[cfg(test)]
@@ -13,5 +11,5 @@ pub struct Stack<'a, T> {
     places: &'a mut [T],
     base: usize,
     depth: usize,
-    ghost fits: { base + depth ≤ length (now places) },
+    ghost fits: { base + depth ≤ length places.now },
 }

@@ -1,13 +1,7 @@
 //! Making a stack, and pushing and popping values.
-ghost use mathlib.Core.Bool.{cond};
-ghost use mathlib.Core.List.{[], _∷_};
-ghost use mathlib.Core.Path.{_≡_};
-ghost use Prim.Native.Nat.{_+_, _-_, _<_};
-ghost use denote.Ref.{name};
-ghost use lib.Dec.{ltb};
-ghost use lib.ListN.{length, take, getD, set};
-ghost use Rattle·std.specs.Results.{isOk};
-ghost use Rattle·stack·specs.Stacks.{stacked, room, before-base, popped-value, popped-rest, place-before};
+ghost use Rattle.std.specs.Prelude.{◌≡◌, ◌+◌, ◌-◌, ◌<◌, [], ◌∷◌, length, take, is_ok, if◌then◌else◌, nat_lt, slice_index_or, slice_set};
+ghost use Rattle.stack.specs.Stacks.{stacked, room, before-base, popped-value, popped-rest, place-before};
+
 use crate::Stack;
 
 /// The refusal of a push on a full stack.
@@ -17,11 +11,11 @@ pub struct Full {}
 impl<'a, T: Copy> Stack<'a, T> {
     /// An empty stack on the places from `base` on; with `base` past the end, it has no room.
     pub fn new(places: &'a mut [T], base: usize) -> Stack<'a, T>
-        ensures empty { λ r. ⌜ stacked r ≡ [] ⌝ }
-        ensures room { λ r. ⌜ room r ≡ length (now (places .entry)) - base ⌝ }
-        ensures before { λ r. ⌜ before-base r ≡ take base (now (places .entry)) ⌝ }
-        ensures memory { λ r. ⌜ r .places .now ≡ now (places .entry) ⌝ }
-        ensures lender { λ r. ⌜ name (r .places) ≡ name (places .entry) ⌝ }
+        ensures empty { stacked result ≡ [] }
+        ensures room { room result ≡ length places.old - base }
+        ensures before { before-base result ≡ take base places.old }
+        ensures memory { result.places.now ≡ places.old }
+        ensures lender { result.places.ghost_name ≡ places.entry.ghost_name }
     {
         let end = places.len();
         Stack {
@@ -33,7 +27,7 @@ impl<'a, T: Copy> Stack<'a, T> {
 
     /// How many values are stacked.
     pub fn depth(&self) -> usize
-        ensures { λ r. ⌜ r ≡ length (stacked (now (self .entry))) ⌝ }
+        ensures { result ≡ length (stacked self.now) }
     {
         let Stack { depth, .. } = *self;
         depth
@@ -41,12 +35,12 @@ impl<'a, T: Copy> Stack<'a, T> {
 
     /// One value more, or a refusal that changes nothing.
     pub fn push(&mut self, value: T) -> Result<(), Full>
-        ensures answer { λ r. ⌜ isOk r ≡ ltb (length (stacked (now (self .entry)))) (room (now (self .entry))) ⌝ }
-        ensures stacked { λ r. ⌜ stacked (now (self .exit)) ≡ cond (isOk r) (value ∷ stacked (now (self .entry))) (stacked (now (self .entry))) ⌝ }
-        ensures memory { λ r. ⌜ now (self .exit) .places .now ≡ cond (isOk r) (set (now (self .entry) .places .now) (now (self .entry) .base + now (self .entry) .depth) value) (now (self .entry) .places .now) ⌝ }
-        ensures room { λ _. ⌜ room (now (self .exit)) ≡ room (now (self .entry)) ⌝ }
-        ensures before { λ _. ⌜ before-base (now (self .exit)) ≡ before-base (now (self .entry)) ⌝ }
-        ensures lender { λ _. ⌜ name (now (self .exit) .places) ≡ name (now (self .entry) .places) ⌝ }
+        ensures answer { is_ok result ≡ nat_lt (length (stacked self.old)) (room self.old) }
+        ensures stacked { stacked self.new ≡ (if is_ok result then value ∷ stacked self.old else stacked self.old) }
+        ensures memory { self.new.places.now ≡ (if is_ok result then slice_set self.old.places.now (self.old.base + self.old.depth) value else self.old.places.now) }
+        ensures room { room self.new ≡ room self.old }
+        ensures before { before-base self.new ≡ before-base self.old }
+        ensures lender { self.new.places.ghost_name ≡ self.old.places.ghost_name }
     {
         let end = self.base + self.depth;
         if end >= self.places.len() {
@@ -59,12 +53,12 @@ impl<'a, T: Copy> Stack<'a, T> {
 
     /// The value that was pushed last, taken off; none, and nothing changed, where the stack is empty.
     pub fn pop(&mut self) -> Option<T>
-        ensures answer { λ r. ⌜ r ≡ popped-value (stacked (now (self .entry))) ⌝ }
-        ensures stacked { λ _. ⌜ stacked (now (self .exit)) ≡ popped-rest (stacked (now (self .entry))) ⌝ }
-        ensures memory { λ _. ⌜ now (self .exit) .places .now ≡ now (self .entry) .places .now ⌝ }
-        ensures room { λ _. ⌜ room (now (self .exit)) ≡ room (now (self .entry)) ⌝ }
-        ensures before { λ _. ⌜ before-base (now (self .exit)) ≡ before-base (now (self .entry)) ⌝ }
-        ensures lender { λ _. ⌜ name (now (self .exit) .places) ≡ name (now (self .entry) .places) ⌝ }
+        ensures answer { result ≡ popped-value (stacked self.old) }
+        ensures stacked { stacked self.new ≡ popped-rest (stacked self.old) }
+        ensures memory { self.new.places.now ≡ self.old.places.now }
+        ensures room { room self.new ≡ room self.old }
+        ensures before { before-base self.new ≡ before-base self.old }
+        ensures lender { self.new.places.ghost_name ≡ self.old.places.ghost_name }
     {
         if self.depth == 0 {
             return None;
@@ -77,8 +71,8 @@ impl<'a, T: Copy> Stack<'a, T> {
 
     // What a place holds.
     fn at(&self, place: usize) -> T
-        requires { ⌜ place < length (now self .places .now) ⌝ }
-        ensures { λ r. ⌜ r ≡ getD (now (self .entry) .places .now) place r ⌝ }
+        requires { place < length self.now.places.now }
+        ensures { result ≡ slice_index_or self.now.places.now place result }
     {
         let places = &*self.places;
         places[place]
@@ -86,7 +80,7 @@ impl<'a, T: Copy> Stack<'a, T> {
 
     /// The value of a place before the base, if there is such a place.
     pub fn before_base(&self, place: usize) -> Option<T>
-        ensures { λ r. ⌜ r ≡ place-before (now (self .entry)) place ⌝ }
+        ensures { result ≡ place-before self.now place }
     {
         if place >= self.base {
             return None;

@@ -1,11 +1,6 @@
 -- Part of a list is replaced by another list of its length.
-use Prim.Native.Nat.{ℕ, suc, _+_, _<_, _≤_}
-use mathlib.Core.List.{List, [], _∷_, _++_, append-assoc}
-use mathlib.Core.Path.{_≡_, sym, ap, _∙_}
-use native.Mathlib.Nat.{add-zero}
-use native.Mathlib.Omega.{arith}
-use lib.ListN.{length, take, drop, set, getD}
-use Rattle·std.proofs.shelf.Lists.{length-append, length-take-le, length-drop, take-append-drop, take-at, drop-at, drop-drop, take-more, set-at}
+use Rattle.std.proofs.Common.{◌≡◌, ℕ, suc, ◌+◌, ◌<◌, ◌≤◌, List, [], ◌∷◌, ◌++◌, length, get_or, take, drop, set, sym, ap, ◌∙◌, append_assoc, add-zero, arith}
+use Rattle.std.proofs.lemmas.List.{length-append, length-take-le, length-drop, take-append-drop, take_at, drop_at, drop-drop, take_more, set_at}
 
 module _ {X : Type 0} where
   -- The list T with R over its elements from n on.
@@ -13,12 +8,12 @@ module _ {X : Type 0} where
   over n R T = take n T ++ (R ++ drop (n + length R) T)
 
   -- Nothing over a list leaves it.
-  pub over-nothing : (n : ℕ) (T : List X) → over n [] T ≡ T
-  over-nothing n T = ap (λ k. take n T ++ drop k T) (add-zero n) ∙ take-append-drop n T
+  pub over_nothing : (n : ℕ) (T : List X) → over n [] T ≡ T
+  over_nothing n T = ap (λ k. take n T ++ drop k T) (add-zero n) ∙ take-append-drop n T
 
   -- A part over a list that is long enough leaves its length.
-  pub length-over : (n : ℕ) (R T : List X) → n + length R ≤ length T → length (over n R T) ≡ length T
-  length-over n R T h =
+  pub length_over : (n : ℕ) (R T : List X) → n + length R ≤ length T → length (over n R T) ≡ length T
+  length_over n R T h =
       let a = length-append (take n T) (R ++ drop (n + length R) T) in
       let b = length-append R (drop (n + length R) T) in
       let c = length-take-le n T (omega arith) in
@@ -33,20 +28,20 @@ module _ {X : Type 0} where
       let c = length-take-le n T (omega arith) in
       let q : length (A ++ R) ≡ n + m = omega (arith, length-append A R) in
       let k : n + length R + length S ≡ n + length (R ++ S) = omega (arith, length-append R S) in
-      let front : take (n + m) (A ++ (R ++ D)) ≡ A ++ R = ap (take (n + m)) (sym (append-assoc A R D)) ∙ take-at (A ++ R) D (n + m) q in
-      let back : drop (n + m) (A ++ (R ++ D)) ≡ D = ap (drop (n + m)) (sym (append-assoc A R D)) ∙ drop-at (A ++ R) D (n + m) q in
+      let front : take (n + m) (A ++ (R ++ D)) ≡ A ++ R = ap (take (n + m)) (sym (append_assoc A R D)) ∙ take_at (A ++ R) D (n + m) q in
+      let back : drop (n + m) (A ++ (R ++ D)) ≡ D = ap (drop (n + m)) (sym (append_assoc A R D)) ∙ drop_at (A ++ R) D (n + m) q in
       let rest : drop (n + m + length S) (A ++ (R ++ D)) ≡ drop (n + length (R ++ S)) T =
       sym (drop-drop (length S) (n + m) (A ++ (R ++ D))) ∙ ap (drop (length S)) back ∙ drop-drop (length S) (n + length R) T ∙ ap (λ i. drop i T) k in
       (λ i. front i ++ (S ++ rest i))
-      ∙ append-assoc A R (S ++ drop (n + length (R ++ S)) T)
-      ∙ ap (λ l. A ++ l) (sym (append-assoc R S (drop (n + length (R ++ S)) T)))
+      ∙ append_assoc A R (S ++ drop (n + length (R ++ S)) T)
+      ∙ ap (λ l. A ++ l) (sym (append_assoc R S (drop (n + length (R ++ S)) T)))
 
   -- An element set before a part is the first of the part.
-  pub over-first : (n : ℕ) (x : X) (R T : List X) → n < length T → set (over (n + 1) R T) n x ≡ over n (x ∷ R) T
-  over-first n x R T h =
+  pub over_first : (n : ℕ) (x : X) (R T : List X) → n < length T → set (over (n + 1) R T) n x ≡ over n (x ∷ R) T
+  over_first n x R T h =
       let k : n + 1 + length R ≡ n + suc (length R) = omega arith in
       let D = R ++ drop (n + 1 + length R) T in
-      ap (λ l. set (l ++ D) n x) (take-more T n x h)
-      ∙ ap (λ l. set l n x) (append-assoc (take n T) (getD T n x ∷ []) D)
-      ∙ set-at (take n T) (getD T n x) D x n (length-take-le n T (omega arith))
+      ap (λ l. set (l ++ D) n x) (take_more T n x h)
+      ∙ ap (λ l. set l n x) (append_assoc (take n T) (get_or T n x ∷ []) D)
+      ∙ set_at (take n T) (get_or T n x) D x n (length-take-le n T (omega arith))
       ∙ ap (λ i. take n T ++ x ∷ (R ++ drop i T)) k

@@ -1,6 +1,6 @@
 //! What a controller knows of each statement.
-ghost use mathlib.Core.Path.{_≡_};
-ghost use Rattle·table·specs.Filling.{blank-row};
+ghost use Rattle.std.specs.Prelude.{◌≡◌};
+ghost use Rattle.table.specs.Filling.{blank-row};
 
 /// An expression: a part of the program's bytes.
 #[derive(Clone, Copy, PartialEq, Eq, Debug)]
@@ -41,7 +41,7 @@ pub struct Row {
 impl Row {
     /// The row that stands where no statement is yet.
     pub fn blank() -> Row
-        ensures { λ r. ⌜ r ≡ blank-row ⌝ }
+        ensures { result ≡ blank-row }
     {
         Row {
             task: Task::Nothing,

@@ -1,22 +1,14 @@
 -- Hexadecimal words: pairs of digits, the high digit of a byte first.
-use Prim.Native.Nat.{ℕ, _+_, _-_, _*_}
-use mathlib.Core.Bool.{cond, _&&_}
-use mathlib.Core.List.{List, [], _∷_}
-use lib.Chars.{codes}
-use lib.Dec.{leb}
-use Rattle·std.specs.Options.{okOr}
-use Rattle·std.specs.declared.option.Option.{Option}
-use Rattle·std.specs.declared.option.Option.the-variants.{Some, None}
-use Rattle·std.specs.declared.result.Result.{Result}
-use Rattle·std.specs.declared.result.Result.the-variants.{Ok}
-use Rattle·std.specs.shelf.Text.{sameBytes}
-use Rattle·words·specs.declared.problem.Problem.{Problem}
-use Rattle·words·specs.declared.problem.Problem.the-variants.{NotHexadecimal}
+use Rattle.std.specs.Prelude.{ℕ, ◌+◌, ◌-◌, ◌*◌, cond, ◌&&◌, List, [], ◌∷◌, Some, None, Ok, codes, Option, Result, nat_le}
+use Rattle.std.specs.Option.{ok_or}
+use Rattle.std.specs.Str.{bytes_eq}
+use Rattle.words.specs.declared.problem.Problem.{Problem}
+use Rattle.words.specs.declared.problem.Problem.TheVariants.{NotHexadecimal}
 
 -- The characters 0 to 9, a to f and A to F stand for 0 to 15; no other is a digit.
-abbrev pub digit-value : ℕ → Option ℕ
-digit-value c =
-    cond (leb 48 c && leb c 57) (Some (c - 48)) (cond (leb 97 c && leb c 102) (Some (c - 87)) (cond (leb 65 c && leb c 70) (Some (c - 55)) None))
+abbrev pub digit_value : ℕ → Option ℕ
+digit_value c =
+    cond (nat_le 48 c && nat_le c 57) (Some (c - 48)) (cond (nat_le 97 c && nat_le c 102) (Some (c - 87)) (cond (nat_le 65 c && nat_le c 70) (Some (c - 55)) None))
 
 -- Two digits stand for sixteen times the first and the second.
 abbrev pub pair-value : Option ℕ → Option ℕ → Option ℕ
@@ -34,12 +26,12 @@ byte-before (Some b) (Some bs) = Some (b ∷ bs)
 abbrev pub bytes-in : List ℕ → Option (List ℕ)
 bytes-in [] = Some []
 bytes-in (c ∷ []) = None
-bytes-in (h ∷ l ∷ cs) = byte-before (pair-value (digit-value h) (digit-value l)) (bytes-in cs)
+bytes-in (h ∷ l ∷ cs) = byte-before (pair-value (digit_value h) (digit_value l)) (bytes-in cs)
 
 -- A word that is not pairs of digits is a problem, with the word's place in its line.
 abbrev pub bytes-at : ℕ → List ℕ → Result (List ℕ) Problem
-bytes-at place w = okOr (bytes-in w) (NotHexadecimal place)
+bytes-at place w = ok_or (bytes-in w) (NotHexadecimal place)
 
 -- The word `-` stands for no bytes; any other word stands for its bytes.
 abbrev pub expression-at : ℕ → List ℕ → Result (List ℕ) Problem
-expression-at place w = cond (sameBytes w (codes "-")) (Ok []) (bytes-at place w)
+expression-at place w = cond (bytes_eq w (codes "-")) (Ok []) (bytes-at place w)

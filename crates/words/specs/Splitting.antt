@@ -1,26 +1,24 @@
 -- The words of a text, which white space parts.
-use mathlib.Core.Path.{_≡_}
-use mathlib.Core.List.{List, [], _∷_, _++_}
-use Prim.Native.Nat.{ℕ, _<_}
-use denote.Ref.{RefT, now}
-use lib.ListN.{length}
-use Rattle·std.specs.Words.{white, dark, Without, Opens}
+use Rattle.std.specs.Prelude.{◌≡◌, ℕ, ◌<◌, List, [], ◌∷◌, ◌++◌, length}
+use Rattle.std.specs.Borrow.{Bor}
+use Rattle.std.specs.Char.{is_whitespace, is_not_whitespace}
+use Rattle.std.specs.Str.{NoCharPasses, EmptyOrStartsWithPassing}
 
 -- A text is a gap of white space, a first word, and a rest that is empty or begins with white space.
 pub record First (text word rest : List ℕ) : Type 0 where
   pub gap : List ℕ
   pub cut : text ≡ gap ++ (word ++ rest)
   pub some : 0 < length word
-  pub blank : Without dark gap
-  pub solid : Without white word
-  pub ends : (more : List ℕ) × Opens white rest more
+  pub blank : NoCharPasses is_not_whitespace gap
+  pub solid : NoCharPasses is_whitespace word
+  pub ends : (more : List ℕ) × EmptyOrStartsWithPassing is_whitespace rest more
 
 -- The words of a text, in their order; a text without words is white space.
 abbrev pub Words : List ℕ → List (List ℕ) → Type 0
-Words text [] = Without dark text
+Words text [] = NoCharPasses is_not_whitespace text
 Words text (w ∷ ws) = (rest : List ℕ) × First text w rest × Words rest ws
 
 -- Borrowed words hold the texts that they point to.
-abbrev pub texts : List (RefT (List ℕ)) → List (List ℕ)
+abbrev pub texts : List (Bor (List ℕ)) → List (List ℕ)
 texts [] = []
-texts (w ∷ ws) = now w ∷ texts ws
+texts (w ∷ ws) = w.now ∷ texts ws

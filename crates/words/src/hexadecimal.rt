@@ -1,18 +1,15 @@
 //! Hexadecimal words: pairs of digits.
-ghost use mathlib.Core.Path.{_≡_};
-ghost use Prim.Native.Nat.{_<_};
-ghost use Rattle·std.specs.Of.Vec.{vec-items};
-ghost use Rattle·std.specs.Slices.{found};
-ghost use Rattle·words·specs.Hexadecimal.{digit-value, pair-value, bytes-at, expression-at};
-ghost use Rattle·words·specs.Outcomes.{Gives};
+ghost use Rattle.std.specs.Prelude.{◌≡◌, ◌<◌, IfSome, vec_items};
+ghost use Rattle.words.specs.Hexadecimal.{digit_value, pair-value, bytes-at, expression-at};
+ghost use Rattle.words.specs.Outcomes.{Gives};
+
 use crate::problem::Problem;
-use crate::problem::ProblemFromRefused;
 use std::alloc::Global;
 
 /// What a hexadecimal digit stands for, in either case.
 pub fn digit_value(character: u8) -> Option<u8>
-    ensures value { λ r. ⌜ r ≡ digit-value character ⌝ }
-    ensures bound { λ r. ⌜ found r (λ digit. digit < 16) ⌝ }
+    ensures value { result ≡ digit_value character }
+    ensures bound { IfSome result (λ digit. digit < 16) }
 {
     match character {
         b'0'..=b'9' => Some(character - b'0'),
@@ -24,7 +21,7 @@ pub fn digit_value(character: u8) -> Option<u8>
 
 /// The byte of two hexadecimal digits.
 pub fn pair_value(high: u8, low: u8) -> Option<u8>
-    ensures { λ r. ⌜ r ≡ pair-value (digit-value high) (digit-value low) ⌝ }
+    ensures { result ≡ pair-value (digit_value high) (digit_value low) }
 {
     let high = digit_value(high)?;
     let low = digit_value(low)?;
@@ -33,7 +30,7 @@ pub fn pair_value(high: u8, low: u8) -> Option<u8>
 
 /// The bytes of a hexadecimal word, the one at this place in its line.
 pub fn bytes_at(heap: Global, place: usize, word: &str) -> Result<Vec<u8>, Problem>
-    ensures { λ r. ⌜ Gives vec-items (bytes-at place (now (word .entry))) r ⌝ }
+    ensures { Gives vec_items (bytes-at place word.now) result }
 {
     let mut bytes = Vec::new(heap);
     let mut rest = word.as_bytes();
@@ -51,7 +48,7 @@ pub fn bytes_at(heap: Global, place: usize, word: &str) -> Result<Vec<u8>, Probl
 
 /// The bytes of an expression: a hexadecimal word, or `-` for none.
 pub fn expression_at(heap: Global, place: usize, word: &str) -> Result<Vec<u8>, Problem>
-    ensures { λ r. ⌜ Gives vec-items (expression-at place (now (word .entry))) r ⌝ }
+    ensures { Gives vec_items (expression-at place word.now) result }
 {
     if word == "-" {
         Ok(Vec::new(heap))

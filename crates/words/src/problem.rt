@@ -1,8 +1,8 @@
 //! What can be wrong with a line of a job.
-ghost use mathlib.Core.Path.{_≡_};
-ghost use Rattle·words·specs.declared.problem.Problem.the-variants.{OutOfMemory};
-use std::alloc::AllocError;
-use std::alloc::Refused;
+ghost use Rattle.std.specs.Prelude.{◌≡◌};
+ghost use Rattle.words.specs.declared.problem.Problem.TheVariants.{OutOfMemory};
+
+use std::alloc::{AllocError, AllocFailed};
 use std::fmt;
 
 /// What is wrong with a line; where it is one word, with the word's number in the line, the command being word 1.
@@ -19,18 +19,18 @@ pub enum Problem {
     OutOfMemory,
 }
 
-pub impl From<AllocError> for Problem as ProblemFromAllocError {
-    ghost converts = { λ _ r. r ≡ OutOfMemory };
+impl From<AllocError> for Problem {
+    ghost from_gives = { λ _ r. r ≡ OutOfMemory };
 
     fn from(_error: AllocError) -> Problem {
         Problem::OutOfMemory
     }
 }
 
-pub impl<T: Drop> From<Refused<T>> for Problem as ProblemFromRefused {
-    ghost converts = { λ _ r. r ≡ OutOfMemory };
+impl<T: Drop> From<AllocFailed<T>> for Problem {
+    ghost from_gives = { λ _ r. r ≡ OutOfMemory };
 
-    fn from(_refused: Refused<T>) -> Problem {
+    fn from(_refused: AllocFailed<T>) -> Problem {
         Problem::OutOfMemory
     }
 }
@@ -52,7 +52,7 @@ impl Problem {
     }
 }
 
-pub impl fmt::Display for Problem as ProblemDisplay {
+impl fmt::Display for Problem {
     fn fmt<W: fmt::Write>(&self, f: &mut fmt::Formatter<W>) -> fmt::Result {
         let message = self.message();
         match *self {

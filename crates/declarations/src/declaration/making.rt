@@ -1,13 +1,11 @@
 //! Makes declarations, and tells what they declare.
-ghost use mathlib.Core.Path.{_≡_};
-ghost use mathlib.Core.Bool.{false};
-ghost use Rattle·std.specs.Options.{Cases};
-ghost use Rattle·declarations·specs.Declaring.{variable-of, idle-input, ordered};
-ghost use Rattle·rules.specs.Variables.{Variable};
+ghost use Rattle.std.specs.Prelude.{◌≡◌, false, MatchOption};
+ghost use Rattle.declarations.specs.Declaring.{variable-of, idle-input, ordered};
+ghost use Rattle.rules.specs.Variables.{Variable};
+
 use crate::declaration::Declaration;
 use arithmetic::operators::Combining;
-use rules::program::Kind;
-use rules::program::Policy;
+use rules::program::{Kind, Policy};
 
 impl Declaration {
     /// A declaration; none where the initial value is not within the limits.
@@ -20,7 +18,7 @@ impl Declaration {
         low: i32,
         high: i32,
     ) -> Option<Declaration>
-        ensures { λ r. ⌜ Cases r (ordered low initial high ≡ false) (λ d. variable-of d ≡ record { kind = kind; policy = policy; operator = operator; owner = owner; initial = initial; low = low; high = high }) ⌝ }
+        ensures { MatchOption result (ordered low initial high ≡ false) (λ d. variable-of d ≡ record { kind = kind; policy = policy; operator = operator; owner = owner; initial = initial; low = low; high = high }) }
     {
         if low <= initial && initial <= high {
             Some(Declaration {
@@ -39,7 +37,7 @@ impl Declaration {
 
     /// An input that reads nothing but 0.
     pub fn nothing() -> Declaration
-        ensures { λ r. ⌜ variable-of r ≡ idle-input ⌝ }
+        ensures { variable-of result ≡ idle-input }
     {
         Declaration {
             kind: Kind::Input,
@@ -54,49 +52,49 @@ impl Declaration {
 
     /// What kind of variable it is.
     pub fn kind(self) -> Kind
-        ensures { λ r. ⌜ r ≡ variable-of self .kind ⌝ }
+        ensures { result ≡ (variable-of self).kind }
     {
         self.kind
     }
 
     /// Which copies a join takes.
     pub fn policy(self) -> Policy
-        ensures { λ r. ⌜ r ≡ variable-of self .policy ⌝ }
+        ensures { result ≡ (variable-of self).policy }
     {
         self.policy
     }
 
     /// How a join combines two copies.
     pub fn operator(self) -> Combining
-        ensures { λ r. ⌜ r ≡ variable-of self .operator ⌝ }
+        ensures { result ≡ (variable-of self).operator }
     {
         self.operator
     }
 
     /// The thread of a private; 0 for another variable.
     pub fn owner(self) -> u8
-        ensures { λ r. ⌜ r ≡ variable-of self .owner ⌝ }
+        ensures { result ≡ (variable-of self).owner }
     {
         self.owner
     }
 
     /// The value that a load gives it.
     pub fn initial(self) -> i32
-        ensures { λ r. ⌜ r ≡ variable-of self .initial ⌝ }
+        ensures { result ≡ (variable-of self).initial }
     {
         self.initial
     }
 
     /// The lowest number that it may show.
     pub fn low(self) -> i32
-        ensures { λ r. ⌜ r ≡ variable-of self .low ⌝ }
+        ensures { result ≡ (variable-of self).low }
     {
         self.low
     }
 
     /// The highest number that it may show.
     pub fn high(self) -> i32
-        ensures { λ r. ⌜ r ≡ variable-of self .high ⌝ }
+        ensures { result ≡ (variable-of self).high }
     {
         self.high
     }

@@ -1,9 +1,7 @@
 //! Begins a survey, and notes rows in it.
-ghost use mathlib.Core.Path.{_≡_};
-ghost use Prim.Native.Nat.{_<_};
-ghost use lib.ListN.{replicate, set};
-ghost use Rattle·std.specs.declared.result.Result.the-variants.{Ok};
-ghost use Rattle·table.specs.Filling.{blank-row};
+ghost use Rattle.std.specs.Prelude.{◌≡◌, ◌<◌, replicate, Ok, slice_set};
+ghost use Rattle.table.specs.Filling.{blank-row};
+
 use crate::survey::Survey;
 use heads::counts::Counts;
 use table::rows::Row;
@@ -11,9 +9,9 @@ use table::rows::Row;
 impl Survey {
     /// Nothing was read.
     pub(crate) fn new() -> Survey
-        ensures counts { λ r. ⌜ r .counts ≡ record { statements = 0; pars = 0; threads = 1 } ⌝ }
-        ensures pausing { λ r. ⌜ r .pausing ≡ Ok tt ⌝ }
-        ensures rows { λ r. ⌜ r .rows ≡ replicate 512 blank-row ⌝ }
+        ensures counts { result.counts ≡ record { statements = 0; pars = 0; threads = 1 } }
+        ensures pausing { result.pausing ≡ Ok tt }
+        ensures rows { result.rows ≡ replicate 512 blank-row }
     {
         Survey {
             counts: Counts {
@@ -28,10 +26,10 @@ impl Survey {
 
     /// The row of a statement, at its number.
     pub(crate) fn note_row(&mut self, number: usize, row: Row)
-        requires { ⌜ number < 512 ⌝ }
-        ensures rows { λ _. ⌜ now (self .exit) .rows ≡ set (now (self .entry) .rows) number row ⌝ }
-        ensures counts { λ _. ⌜ now (self .exit) .counts ≡ now (self .entry) .counts ⌝ }
-        ensures pausing { λ _. ⌜ now (self .exit) .pausing ≡ now (self .entry) .pausing ⌝ }
+        requires { number < 512 }
+        ensures rows { self.new.rows ≡ slice_set self.old.rows number row }
+        ensures counts { self.new.counts ≡ self.old.counts }
+        ensures pausing { self.new.pausing ≡ self.old.pausing }
     {
         self.rows[number] = row;
     }

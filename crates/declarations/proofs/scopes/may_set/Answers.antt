@@ -1,10 +1,10 @@
 -- The declaration of the variable, if there is one.
-use borrow.Author.Needs.{needs}
-use Rattle·declarations·proofs.Known.{past-end, found}
-use Rattle·declarations·proofs.scopes.may_set.Needs as need
+use Rattle.std.proofs.Common.{rules}
+use Rattle.declarations.proofs.Known.{past_end, found}
+use Rattle.declarations.proofs.scopes.may_set.Goals as goal
 
-pub returns-then-i-declarations : need.returns-then-i-declarations
-returns-then-i-declarations c = search (needs, past-end)
+pub returns-then-i-declarations : goal.returns-then-i-declarations
+returns-then-i-declarations c = search (rules, past_end)
 
-pub returns : need.returns
-returns c = search (needs, found)
+pub returns : goal.returns
+returns c = search (rules, found)

@@ -1,20 +1,18 @@
 -- The first command, each further one, and a fault that a command has.
-use mathlib.Core.Path.{ap, _∙_}
-use borrow.Author.Needs.{needs}
-use Rattle·std.specs.declared.result.Result.the-variants.{Err}
-use Rattle·std.proofs.shelf.Results.{err-from-errBy}
-use Rattle·declarations.specs.Declaring.{variables-of}
-use Rattle·heads·proofs.Commands.{begun, one-more, stopped}
-use Rattle·heads·proofs.expression.check_expression.Needs as need
+use Rattle.std.proofs.Common.{Err, ap, ◌∙◌, rules}
+use Rattle.std.proofs.lemmas.Result.{err_from_is_err_and}
+use Rattle.declarations.specs.Declaring.{variables-of}
+use Rattle.heads.proofs.Commands.{begun, one_more, stopped}
+use Rattle.heads.proofs.expression.check_expression.Goals as goal
 
-pub loop-left-holds : need.loop-left-holds
-loop-left-holds c = search (needs, begun)
+pub loop-left-init : goal.loop-left-init
+loop-left-init c = search (rules, begun)
 
-pub loop-left-again : need.loop-left-again
-loop-left-again c = search (needs, one-more, c .in-Continue-stacked .ensures tt)
+pub loop-left-preserved : goal.loop-left-preserved
+loop-left-preserved c = search (rules, one_more, c.in-ok-stacked.ensures)
 
-pub returns-in-Break-stacked : need.returns-in-Break-stacked
-returns-in-Break-stacked c =
-    let f = err-from-errBy (c .from-residual .result) (c .from-residual .ensures .1) in
-    f .1 ∙ ap Err (f .2)
-    ∙ stopped (variables-of (c .args .declarations .now)) (c .args .thread) (c .args .from) (c .args .statement) (c .args .code .now) (c .loop-left .left .now) (c .loop-left .depth) _ (c .loop-left .inv) (search needs) (c .in-Break-stacked .ensures tt .answer)
+pub returns-in-err-stacked : goal.returns-in-err-stacked
+returns-in-err-stacked c =
+    let f = err_from_is_err_and c.from-residual.result c.from-residual.ensures.1 in
+    f.1 ∙ ap Err f.2
+    ∙ stopped (variables-of c.args.declarations.now) c.args.thread c.args.from c.args.statement c.args.code.now c.loop-left.left.now c.loop-left.depth _ c.loop-left.invariant (search rules) c.in-err-stacked.ensures.answer

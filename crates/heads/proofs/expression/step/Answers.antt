@@ -1,19 +1,19 @@
 -- One command, by its first byte.
-use borrow.Author.Needs.{needs}
-use Rattle·heads·proofs.Commands.{constant-step, variable-step, variable-wrong, operator-step, inversion-step}
-use Rattle·heads·proofs.expression.step.Needs as need
+use Rattle.std.proofs.Common.{rules}
+use Rattle.heads.proofs.Commands.{constant-step, variable-step, variable-wrong, operator-step, inversion-step}
+use Rattle.heads.proofs.expression.step.Goals as goal
 
-pub returns-in-64 : need.returns-in-64
-returns-in-64 c = search (needs, constant-step)
+pub returns-in-64 : goal.returns-in-64
+returns-in-64 c = search (rules, constant-step)
 
-pub returns-then-not-may-read : need.returns-then-not-may-read
-returns-then-not-may-read c = search (needs, variable-wrong)
+pub returns-then-not-may-read : goal.returns-then-not-may-read
+returns-then-not-may-read c = search (rules, variable-wrong)
 
-pub returns-else-not-may-read : need.returns-else-not-may-read
-returns-else-not-may-read c = search (needs, variable-step)
+pub returns-else-not-may-read : goal.returns-else-not-may-read
+returns-else-not-may-read c = search (rules, variable-step)
 
-pub returns-in-66-to-72 : need.returns-in-66-to-72
-returns-in-66-to-72 c = search (needs, operator-step)
+pub returns-in-66-to-72 : goal.returns-in-66-to-72
+returns-in-66-to-72 c = search (rules, operator-step)
 
-pub returns-in-73 : need.returns-in-73
-returns-in-73 c = search (needs, inversion-step)
+pub returns-in-73 : goal.returns-in-73
+returns-in-73 c = search (rules, inversion-step)

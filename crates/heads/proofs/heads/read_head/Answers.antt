@@ -1,28 +1,26 @@
 -- The head, or its fault with the site added.
-use mathlib.Core.Path.{refl, sym, ap, _∙_}
-use borrow.Author.Needs.{needs}
-use Rattle·std.specs.declared.result.Result.the-variants.{Ok, Err}
-use Rattle·declarations.specs.Declaring.{variables-of}
-use Rattle·heads·specs.Counting.{counted}
-use Rattle·heads·specs.Readers.{left-of, statement-place}
-use Rattle·heads·specs.Seen.{seen}
-use Rattle·heads·proofs.Exits.{sited}
-use Rattle·heads·proofs.heads.read_head.Needs as need
+use Rattle.std.proofs.Common.{Ok, Err, sym, refl, ap, ◌∙◌, rules}
+use Rattle.declarations.specs.Declaring.{variables-of}
+use Rattle.heads.specs.Counting.{counted}
+use Rattle.heads.specs.Readers.{left-of, statement-place}
+use Rattle.heads.specs.Seen.{seen}
+use Rattle.heads.proofs.Exits.{sited}
+use Rattle.heads.proofs.heads.read_head.Goals as goal
 
-pub returns-in-Ok : need.returns-in-Ok
+pub returns-in-Ok : goal.returns-in-Ok
 returns-in-Ok c =
-    let f = c .in-Ok .ensures tt in
+    let f = c.in-Ok.ensures in
     record {
-      answer = sited (variables-of (c .args .declarations .now)) (c .args .scope .nesting) (c .args .scope .thread) (counted (c .args .counts)) (c .args .command) (left-of (c .args .reader .now)) (statement-place (c .args .reader .now)) (Ok (seen (left-of (c .checked-head .last .reader)) (c .in-Ok .head))) (f .answer);
-      fine = f .fine;
-      block = f .block;
+      answer = sited (variables-of c.args.declarations.now) c.args.scope.nesting c.args.scope.thread (counted c.args.counts) c.args.command (left-of c.args.reader.now) (statement-place c.args.reader.now) (Ok (seen (left-of c.checked-head.new.reader) c.in-Ok.head)) f.answer;
+      fine = f.fine;
+      block = f.block;
     }
 
-pub returns-in-Err : need.returns-in-Err
+pub returns-in-Err : goal.returns-in-Err
 returns-in-Err c =
-    let f = c .in-Err .ensures tt in
+    let f = c.in-Err.ensures in
     record {
-      answer = sited (variables-of (c .args .declarations .now)) (c .args .scope .nesting) (c .args .scope .thread) (counted (c .args .counts)) (c .args .command) (left-of (c .args .reader .now)) (statement-place (c .args .reader .now)) (Err (c .in-Err .fault)) (f .answer);
+      answer = sited (variables-of c.args.declarations.now) c.args.scope.nesting c.args.scope.thread (counted c.args.counts) c.args.command (left-of c.args.reader.now) (statement-place c.args.reader.now) (Err c.in-Err.fault) f.answer;
       fine = tt;
-      block = f .block;
+      block = f.block;
     }

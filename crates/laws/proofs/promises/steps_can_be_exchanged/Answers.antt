@@ -1,5 +1,5 @@
-use Rattle·laws·proofs.Steps.{diamond}
-use Rattle·laws·proofs.promises.steps_can_be_exchanged.Needs as need
+use Rattle.laws.proofs.Steps.{diamond}
+use Rattle.laws.proofs.promises.steps_can_be_exchanged.Goals as goal
 
-pub returns : need.returns
+pub returns : goal.returns
 returns g c = λ M ds stores. diamond M ds stores

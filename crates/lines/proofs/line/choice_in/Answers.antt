@@ -1,24 +1,21 @@
-use Prim.Native.Nat.{_≤_, _<_}
-use mathlib.Core.Path.{sym, ap, _∙_}
-use borrow.Author.Needs.{needs}
-use lib.ListN.{length}
-use Rattle·lines·proofs.Naming.{no-items, one-item, two-names}
-use Rattle·lines·specs.Lines.{choice-in}
-use Rattle·words.specs.Splitting.{texts}
-use Rattle·lines·proofs.line.choice_in.Needs as need
+use Rattle.std.proofs.Common.{◌<◌, ◌≤◌, length, sym, ap, ◌∙◌, rules}
+use Rattle.lines.proofs.Naming.{no_items, one-item, two-names}
+use Rattle.lines.specs.Lines.{choice-in}
+use Rattle.words.specs.Splitting.{texts}
+use Rattle.lines.proofs.line.choice_in.Goals as goal
 
-pub returns-in-empty : need.returns-in-empty
+pub returns-in-empty : goal.returns-in-empty
 returns-in-empty c =
-    let none : length (c .args .words .now) < 1 = search needs in
-    ap (λ ws. choice-in (texts ws)) (sym (no-items (c .args .words .now) none))
+    let none : length c.args.words.now < 1 = search rules in
+    ap (λ ws. choice-in (texts ws)) (sym (no_items c.args.words.now none))
 
-pub returns-in-len1 : need.returns-in-len1
+pub returns-in-len1 : goal.returns-in-len1
 returns-in-len1 c =
-    let some : 1 ≤ length (c .args .words .now) = search needs in
-    let few : length (c .args .words .now) < 2 = search needs in
-    c .choice-named .ensures ∙ sym (ap (λ ws. choice-in (texts ws)) (one-item (c .args .words .now) _ some few))
+    let some : 1 ≤ length c.args.words.now = search rules in
+    let few : length c.args.words.now < 2 = search rules in
+    c.choice-named.ensures ∙ sym (ap (λ ws. choice-in (texts ws)) (one-item c.args.words.now _ some few))
 
-pub returns-in-rest : need.returns-in-rest
-returns-in-rest c =
-    let more : 2 ≤ length (c .args .words .now) = search needs in
-    sym (two-names (c .args .words .now) more)
+pub returns-in-default : goal.returns-in-default
+returns-in-default c =
+    let more : 2 ≤ length c.args.words.now = search rules in
+    sym (two-names c.args.words.now more)

@@ -1,6 +1,6 @@
-use mathlib.Core.Path.{sym}
-use Rattle·lines·proofs.Naming.{no-arithmetic}
-use Rattle·lines·proofs.line.choice_named.Needs as need
+use Rattle.std.proofs.Common.{sym}
+use Rattle.lines.proofs.Naming.{no-arithmetic}
+use Rattle.lines.proofs.line.choice_named.Goals as goal
 
-pub returns-in-rest : need.returns-in-rest
-returns-in-rest c = sym (no-arithmetic (c .args .name .now) (c .in-rest .not-plain) (c .in-rest .not-tracing))
+pub returns-in-default : goal.returns-in-default
+returns-in-default c = sym (no-arithmetic c.args.name.now c.in-default.not_plain c.in-default.not-tracing)

@@ -1,38 +1,34 @@
-use Prim.Native.Nat.{_≤_, _<_}
-use mathlib.Core.Path.{sym, ap, _∙_}
-use borrow.Author.Needs.{needs}
-use lib.ListN.{length}
-use Rattle·std.specs.Of.Vec.{vec-items}
-use Rattle·lines·specs.Lines.{evaluation-said, evaluation-in, limits-shown}
-use Rattle·words.specs.Splitting.{texts}
-use Rattle·lines·proofs.Asking.{gives-problem, too-few-words, bad-code, bad-readings, all-good}
-use Rattle·lines·proofs.Naming.{no-word, word-at, words-from, three-items}
-use Rattle·lines·proofs.line.evaluation_in.Needs as need
+use Rattle.std.proofs.Common.{◌<◌, ◌≤◌, length, vec_items, sym, ap, ◌∙◌, rules}
+use Rattle.lines.specs.Lines.{evaluation-said, evaluation-in, limits-shown}
+use Rattle.words.specs.Splitting.{texts}
+use Rattle.lines.proofs.Asking.{gives-problem, too-few-words, bad-code, bad-readings, all-good}
+use Rattle.lines.proofs.Naming.{no_word, word_at, words-from, three-items}
+use Rattle.lines.proofs.line.evaluation_in.Goals as goal
 
-pub returns-in-rest : need.returns-in-rest
-returns-in-rest c =
-    let few : length (c .args .words .now) < 3 = search needs in
-    λ _. too-few-words (c .args .words .now) few
+pub returns-in-default : goal.returns-in-default
+returns-in-default c =
+    let few : length c.args.words.now < 3 = search rules in
+    λ _. too-few-words c.args.words.now few
 
-pub returns-in-Break-code : need.returns-in-Break-code
-returns-in-Break-code c =
-    let ws = c .args .words .now in
-    let three : 3 ≤ length (c .args .words .now) = search needs in
-    gives-problem evaluation-said (evaluation-in (texts ws)) (c .from-residual-in-Break-code .result) (c .in-Break-code .field-0 .0) (c .from-residual-in-Break-code .ensures .1)
-    (λ never. ap (λ xs. evaluation-in (texts xs)) (three-items ws no-word three)
-    ∙ bad-code (word-at ws 0) (word-at ws 1) (word-at ws 2) (words-from 3 ws) (limits-shown (c .in-Continue-limits .limits)) (sym (c .in-Continue-limits .ensures tt)) _ (c .in-Break-code .ensures tt never))
+pub returns-in-err-code : goal.returns-in-err-code
+returns-in-err-code c =
+    let ws = c.args.words.now in
+    let three : 3 ≤ length c.args.words.now = search rules in
+    gives-problem evaluation-said (evaluation-in (texts ws)) c.from-residual-in-err-code.result c.in-err-code.field-0.0 c.from-residual-in-err-code.ensures.1
+    (λ never. ap (λ xs. evaluation-in (texts xs)) (three-items ws no_word three)
+    ∙ bad-code (word_at ws 0) (word_at ws 1) (word_at ws 2) (words-from 3 ws) (limits-shown c.in-ok-limits.limits) (sym c.in-ok-limits.ensures) _ (c.in-err-code.ensures never))
 
-pub returns-in-Break-readings : need.returns-in-Break-readings
-returns-in-Break-readings c =
-    let ws = c .args .words .now in
-    let three : 3 ≤ length (c .args .words .now) = search needs in
-    gives-problem evaluation-said (evaluation-in (texts ws)) (c .from-residual-in-Break-readings .result) (c .in-Break-readings .field-0 .0) (c .from-residual-in-Break-readings .ensures .1)
-    (λ never. ap (λ xs. evaluation-in (texts xs)) (three-items ws no-word three)
-    ∙ bad-readings (word-at ws 0) (word-at ws 1) (word-at ws 2) (words-from 3 ws) (limits-shown (c .in-Continue-limits .limits)) (sym (c .in-Continue-limits .ensures tt)) (vec-items (c .in-Continue-code .code)) _ (c .in-Continue-code .ensures tt) (c .in-Break-readings .ensures tt never))
+pub returns-in-err-readings : goal.returns-in-err-readings
+returns-in-err-readings c =
+    let ws = c.args.words.now in
+    let three : 3 ≤ length c.args.words.now = search rules in
+    gives-problem evaluation-said (evaluation-in (texts ws)) c.from-residual-in-err-readings.result c.in-err-readings.field-0.0 c.from-residual-in-err-readings.ensures.1
+    (λ never. ap (λ xs. evaluation-in (texts xs)) (three-items ws no_word three)
+    ∙ bad-readings (word_at ws 0) (word_at ws 1) (word_at ws 2) (words-from 3 ws) (limits-shown c.in-ok-limits.limits) (sym c.in-ok-limits.ensures) (vec_items c.in-ok-code.code) _ c.in-ok-code.ensures (c.in-err-readings.ensures never))
 
-pub returns : need.returns
+pub returns : goal.returns
 returns c =
-    let ws = c .args .words .now in
-    let three : 3 ≤ length (c .args .words .now) = search needs in
-    ap (λ xs. evaluation-in (texts xs)) (three-items ws no-word three)
-    ∙ all-good (word-at ws 0) (word-at ws 1) (word-at ws 2) (words-from 3 ws) (limits-shown (c .in-Continue-limits .limits)) (sym (c .in-Continue-limits .ensures tt)) (vec-items (c .in-Continue-code .code)) (vec-items (c .in-Continue-readings .readings)) (c .in-Continue-code .ensures tt) (c .in-Continue-readings .ensures tt)
+    let ws = c.args.words.now in
+    let three : 3 ≤ length c.args.words.now = search rules in
+    ap (λ xs. evaluation-in (texts xs)) (three-items ws no_word three)
+    ∙ all-good (word_at ws 0) (word_at ws 1) (word_at ws 2) (words-from 3 ws) (limits-shown c.in-ok-limits.limits) (sym c.in-ok-limits.ensures) (vec_items c.in-ok-code.code) (vec_items c.in-ok-readings.readings) c.in-ok-code.ensures c.in-ok-readings.ensures

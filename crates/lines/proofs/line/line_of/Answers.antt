@@ -1,27 +1,23 @@
-use Prim.Native.Nat.{_≤_, _<_}
-use mathlib.Core.Path.{sym, ap, _∙_}
-use borrow.Author.Needs.{needs}
-use native.Mathlib.Omega.{arith}
-use lib.ListN.{length}
-use Rattle·lines·specs.Lines.{said, line-of}
-use Rattle·words.specs.Splitting.{texts}
-use Rattle·lines·proofs.Asking.{gives-same, comment-line, other-line}
-use Rattle·lines·proofs.Naming.{no-word, word-at, words-from, no-items, first-item, comment-first, no-comment}
-use Rattle·lines·proofs.line.line_of.Needs as need
+use Rattle.std.proofs.Common.{◌<◌, ◌≤◌, length, sym, ap, ◌∙◌, arith, rules}
+use Rattle.lines.specs.Lines.{said, line_of}
+use Rattle.words.specs.Splitting.{texts}
+use Rattle.lines.proofs.Asking.{gives_same, comment-line, other-line}
+use Rattle.lines.proofs.Naming.{no_word, word_at, words-from, no_items, first-item, comment-first, no-comment}
+use Rattle.lines.proofs.line.line_of.Goals as goal
 
-pub returns-in-empty : need.returns-in-empty
+pub returns-in-empty : goal.returns-in-empty
 returns-in-empty c =
-    let none : length (c .args .words .now) < 1 = search needs in
-    ap (λ ws. line-of (texts ws)) (no-items (c .args .words .now) none)
+    let none : length c.args.words.now < 1 = search rules in
+    ap (λ ws. line_of (texts ws)) (no_items c.args.words.now none)
 
-pub returns-in-len1-up : need.returns-in-len1-up
+pub returns-in-len1-up : goal.returns-in-len1-up
 returns-in-len1-up c =
-    let some : 1 ≤ length (c .args .words .now) = search needs in
-    ap (λ ws. line-of (texts ws)) (first-item (c .args .words .now) no-word some)
-    ∙ comment-line (word-at (c .args .words .now) 0) (words-from 1 (c .args .words .now)) (comment-first (word-at (c .args .words .now) 0) (c .if-starts-with .ensures tt .cases .1 .byte (omega arith)))
+    let some : 1 ≤ length c.args.words.now = search rules in
+    ap (λ ws. line_of (texts ws)) (first-item c.args.words.now no_word some)
+    ∙ comment-line (word_at c.args.words.now 0) (words-from 1 c.args.words.now) (comment-first (word_at c.args.words.now 0) (c.if-starts-with.ensures.cases.1.byte (omega arith)))
 
-pub returns-in-len1-up-2 : need.returns-in-len1-up-2
+pub returns-in-len1-up-2 : goal.returns-in-len1-up-2
 returns-in-len1-up-2 c =
-    let some : 1 ≤ length (c .args .words .now) = search needs in
-    let cut = ap (λ ws. line-of (texts ws)) (first-item (c .args .words .now) no-word some) in
-    gives-same said _ _ (c .command-line .result) (sym (cut ∙ other-line (word-at (c .args .words .now) 0) (words-from 1 (c .args .words .now)) (no-comment (word-at (c .args .words .now) 0) (c .if-starts-with .ensures tt .cases)))) (c .command-line .ensures)
+    let some : 1 ≤ length c.args.words.now = search rules in
+    let cut = ap (λ ws. line_of (texts ws)) (first-item c.args.words.now no_word some) in
+    gives_same said _ _ c.command-line.result (sym (cut ∙ other-line (word_at c.args.words.now 0) (words-from 1 c.args.words.now) (no-comment (word_at c.args.words.now 0) c.if-starts-with.ensures.cases))) c.command-line.ensures

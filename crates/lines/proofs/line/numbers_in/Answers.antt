@@ -1,32 +1,26 @@
-use mathlib.Core.List.{[], _∷_, _++_}
-use lib.IntN.{ℤ}
-use mir.Syntax.{w32}
-use mir.Val.{toZ, ofZ}
-use borrow.Author.Needs.{needs}
-use mathlib.Core.Path.{_≡_, sym, ap, _∙_}
-use Rattle·std.specs.Of.Vec.{vec-items}
-use Rattle·words.specs.Decimal.{numbers-from}
-use Rattle·words.specs.Splitting.{texts}
-use Rattle·lines·proofs.Asking.{gives-problem, gives-memory}
-use Rattle·lines·proofs.Numbers.{numbers-more, numbers-spoilt, numbers-all}
-use Rattle·lines·proofs.Naming.{no-word}
-use Rattle·lines·proofs.line.numbers_in.Needs as need
+use Rattle.std.proofs.Common.{◌≡◌, [], ◌∷◌, ◌++◌, ℤ, vec_items, sym, ap, ◌∙◌, w32, to_z, of_z, rules}
+use Rattle.words.specs.Decimal.{numbers-from}
+use Rattle.words.specs.Splitting.{texts}
+use Rattle.lines.proofs.Asking.{gives-problem, gives-memory}
+use Rattle.lines.proofs.Numbers.{numbers_more, numbers-spoilt, numbers-all}
+use Rattle.lines.proofs.Naming.{no_word}
+use Rattle.lines.proofs.line.numbers_in.Goals as goal
 
-pub returns-in-Break-number : need.returns-in-Break-number
-returns-in-Break-number c =
-    gives-problem vec-items (numbers-from 5 (texts (c .args .words .now))) (c .from-residual .result) (c .in-Break-number .field-0 .0) (c .from-residual .ensures .1)
-    (λ _. numbers-spoilt (c .args .words .now) _ (c .loop-i .i) _ (c .loop-i .inv) (c .loop-i-test .taken) _ (sym (c .number-at .ensures) ∙ c .in-Break-number .was tt))
+pub returns-in-err-number : goal.returns-in-err-number
+returns-in-err-number c =
+    gives-problem vec_items (numbers-from 5 (texts c.args.words.now)) c.from-residual.result c.in-err-number.field-0.0 c.from-residual.ensures.1
+    (λ _. numbers-spoilt c.args.words.now _ c.loop-i.i _ c.loop-i.invariant c.loop-i-test.true _ (sym c.number-at.ensures ∙ c.in-err-number.was))
 
-pub loop-i-again : need.loop-i-again
-loop-i-again c =
-    let n = c .in-Continue-number .number in
-    let same : toZ w32 (ofZ w32 n) ≡ n = search needs in
-    numbers-more (c .args .words .now) (vec-items (c .loop-i .numbers)) (c .loop-i .i) no-word (c .loop-i .inv) (c .loop-i-test .taken) n (vec-items (c .push .last .self)) (sym (c .number-at .ensures) ∙ c .in-Continue-number .was tt)
-    (c .in-Continue-push .ensures tt .items ∙ ap (λ (k : ℤ). vec-items (c .loop-i .numbers) ++ (k ∷ [])) same)
+pub loop-i-preserved : goal.loop-i-preserved
+loop-i-preserved c =
+    let n = c.in-ok-number.number in
+    let same : to_z w32 (of_z w32 n) ≡ n = search rules in
+    numbers_more c.args.words.now (vec_items c.loop-i.numbers) c.loop-i.i no_word c.loop-i.invariant c.loop-i-test.true n (vec_items c.push.new.self) (sym c.number-at.ensures ∙ c.in-ok-number.was)
+    (c.in-ok-push.ensures.items ∙ ap (λ (k : ℤ). vec_items c.loop-i.numbers ++ (k ∷ [])) same)
 
-pub returns-in-Break-push : need.returns-in-Break-push
-returns-in-Break-push c =
-    gives-memory vec-items (numbers-from 5 (texts (c .args .words .now))) (c .from-residual-in-Break-push .result) (c .from-residual-in-Break-push .ensures .1)
+pub returns-in-err-push : goal.returns-in-err-push
+returns-in-err-push c =
+    gives-memory vec_items (numbers-from 5 (texts c.args.words.now)) c.from-residual-in-err-push.result c.from-residual-in-err-push.ensures.1
 
-pub returns : need.returns
-returns c = numbers-all (c .args .words .now) _ (c .loop-i .i) (c .loop-i .inv) (c .loop-i-test .left)
+pub returns : goal.returns
+returns c = numbers-all c.args.words.now _ c.loop-i.i c.loop-i.invariant c.loop-i-test.false

@@ -1,13 +1,13 @@
-use mathlib.Core.Path.{sym, _∙_}
-use Rattle·std.proofs.shelf.Tests.{eqb-true, eqb-false}
-use Rattle·lines·proofs.Naming.{alone, not-alone}
-use Rattle·lines·specs.Lines.{said}
-use Rattle·lines·proofs.line.only_word.Needs as need
+use Rattle.std.proofs.Common.{sym, ◌∙◌}
+use Rattle.std.proofs.lemmas.Bool.{eqb-true, eqb-false}
+use Rattle.lines.proofs.Naming.{alone, not-alone}
+use Rattle.lines.specs.Lines.{said}
+use Rattle.lines.proofs.line.only_word.Goals as goal
 
-pub returns-then-is-empty : need.returns-then-is-empty
+pub returns-then-is-empty : goal.returns-then-is-empty
 returns-then-is-empty c =
-    sym (alone (said (c .args .line)) (c .args .words .now) (eqb-true _ 0 (sym (c .if-is-empty .ensures tt))))
+    sym (alone (said c.args.line) c.args.words.now (eqb-true _ 0 (sym c.if-is-empty.ensures)))
 
-pub returns-else-is-empty : need.returns-else-is-empty
+pub returns-else-is-empty : goal.returns-else-is-empty
 returns-else-is-empty c =
-    sym (not-alone (said (c .args .line)) (c .args .words .now) (eqb-false _ 0 (sym (c .if-is-empty .ensures tt))))
+    sym (not-alone (said c.args.line) c.args.words.now (eqb-false _ 0 (sym c.if-is-empty.ensures)))

@@ -1,11 +1,10 @@
-use mathlib.Core.Path.{sym}
-use Rattle·std.specs.Of.Vec.{vec-items}
-use Rattle·lines·proofs.Asking.{too-many, few-enough, gives-same}
-use Rattle·lines·proofs.line.readings_in.Needs as need
+use Rattle.std.proofs.Common.{vec_items, sym}
+use Rattle.lines.proofs.Asking.{too_many, few-enough, gives_same}
+use Rattle.lines.proofs.line.readings_in.Goals as goal
 
-pub returns-then-words-gt-MOST-VARIABLES : need.returns-then-words-gt-MOST-VARIABLES
-returns-then-words-gt-MOST-VARIABLES c = λ _. too-many (c .args .words .now) (c .if-words-gt-MOST-VARIABLES .taken)
+pub returns-then-words-gt-MOST-VARIABLES : goal.returns-then-words-gt-MOST-VARIABLES
+returns-then-words-gt-MOST-VARIABLES c = λ _. too_many c.args.words.now c.if-words-gt-MOST-VARIABLES.true
 
-pub returns : need.returns
+pub returns : goal.returns
 returns c =
-    gives-same vec-items _ _ (c .numbers-in .result) (sym (few-enough (c .args .words .now) (c .if-words-gt-MOST-VARIABLES .left))) (c .numbers-in .ensures)
+    gives_same vec_items _ _ c.numbers-in.result (sym (few-enough c.args.words.now c.if-words-gt-MOST-VARIABLES.false)) c.numbers-in.ensures

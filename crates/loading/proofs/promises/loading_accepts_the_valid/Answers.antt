@@ -1,5 +1,5 @@
-use Rattle·loading·proofs.Whole.{loading-accepts-the-valid}
-use Rattle·loading·proofs.promises.loading_accepts_the_valid.Needs as need
+use Rattle.loading.proofs.Whole.{loading-accepts-the-valid}
+use Rattle.loading.proofs.promises.loading_accepts_the_valid.Goals as goal
 
-pub returns : need.returns
+pub returns : goal.returns
 returns c = loading-accepts-the-valid

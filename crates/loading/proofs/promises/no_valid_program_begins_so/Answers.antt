@@ -1,5 +1,5 @@
-use Rattle·loading·proofs.Begins.{no-valid-program-begins-so}
-use Rattle·loading·proofs.promises.no_valid_program_begins_so.Needs as need
+use Rattle.loading.proofs.Begins.{no-valid-program-begins-so}
+use Rattle.loading.proofs.promises.no_valid_program_begins_so.Goals as goal
 
-pub returns : need.returns
+pub returns : goal.returns
 returns c = no-valid-program-begins-so

@@ -1,5 +1,5 @@
-use Rattle·loading·proofs.Writing.{writing-tells-apart}
-use Rattle·loading·proofs.promises.writing_tells_apart.Needs as need
+use Rattle.loading.proofs.Writing.{writing-tells-apart}
+use Rattle.loading.proofs.promises.writing_tells_apart.Goals as goal
 
-pub returns : need.returns
+pub returns : goal.returns
 returns c = writing-tells-apart

@@ -1,5 +1,5 @@
-use Rattle·rates·proofs.Tracing.{tracing-keeps-the-rate}
-use Rattle·rates·proofs.promises.tracing_keeps_the_rate.Needs as need
+use Rattle.rates.proofs.Tracing.{tracing-keeps-the-rate}
+use Rattle.rates.proofs.promises.tracing_keeps_the_rate.Goals as goal
 
-pub returns : need.returns
+pub returns : goal.returns
 returns c = tracing-keeps-the-rate

@@ -1,52 +1,45 @@
-use mathlib.Core.Path.{_≡_, sym, ap, subst, _∙_}
-use Prim.Native.Nat.{_≤_}
-use native.Mathlib.Omega.{arith}
-use borrow.Author.Needs.{needs}
-use lib.ListN.{length}
-use mir.Syntax.{w32}
-use mir.Val.{SFits, toZ, ofZ}
-use Rattle·std.proofs.shelf.Signed.{toZ-ofZ}
-use Rattle·std.proofs.shelf.Results.{err-from-errBy, made-from-err}
-use Rattle·std.specs.declared.result.Result.the-variants.{Ok, Err}
-use Rattle·evaluator.specs.Outcomes.{mapped}
-use Rattle·rates·specs.Rates.{Within}
-use Rattle·rates·proofs.Sampling.{rate-is}
-use Rattle·rates·proofs.rate.rate_within.Needs as need
+use Rattle.std.proofs.Common.{◌≡◌, ◌≤◌, length, Ok, Err, sym, ap, ◌∙◌, subst, arith, w32, SFits, to_z, of_z, rules}
+use Rattle.std.proofs.lemmas.Int.{to_z-of_z}
+use Rattle.std.proofs.lemmas.Result.{err_from_is_err_and, IfOk-from_err}
+use Rattle.evaluator.specs.Outcomes.{mapped}
+use Rattle.rates.specs.Rates.{Within}
+use Rattle.rates.proofs.Sampling.{rate-is}
+use Rattle.rates.proofs.rate.rate_within.Goals as goal
 
-pub returns-in-Break-value : need.returns-in-Break-value
-returns-in-Break-value g c =
-    let M = g .A·Arithmetic .meaning (c .args .arithmetic .now) in
-    let rs = c .args .readings .now in
-    let m = c .place-readings .last .memory in
+pub returns-in-err-value : goal.returns-in-err-value
+returns-in-err-value g c =
+    let M = g.A.Arithmetic.meaning c.args.arithmetic.now in
+    let rs = c.args.readings.now in
+    let m = c.place-readings.new.memory in
     let long : length m ≡ 1040 = omega arith in
-    let p = err-from-errBy (c .from-residual .result) (c .from-residual .ensures .1) in
-    let e = c .in-Break-value .ensures tt in
+    let p = err_from_is_err_and c.from-residual.result c.from-residual.ensures.1 in
+    let e = c.in-err-value.ensures in
     record {
-      answer = p .1 ∙ ap Err (p .2) ∙ ap (mapped (M .limited (c .args .limits .low) (c .args .limits .high))) (e .answer)
-          ∙ rate-is M rs m (c .args .code .now) (c .args .limits .low) (c .args .limits .high) long (c .if-readings-gt-MOST-VARIABLES .left) (c .place-readings .ensures);
-      within = made-from-err _ _ (c .from-residual .ensures .0);
+      answer = p.1 ∙ ap Err p.2 ∙ ap (mapped (M.limited c.args.limits.low c.args.limits.high)) e.answer
+          ∙ rate-is M rs m c.args.code.now c.args.limits.low c.args.limits.high long c.if-readings-gt-MOST-VARIABLES.false c.place-readings.ensures;
+      within = IfOk-from_err _ _ c.from-residual.ensures.0;
     }
 
-pub returns : need.returns
+pub returns : goal.returns
 returns g c =
-    let M = g .A·Arithmetic .meaning (c .args .arithmetic .now) in
-    let rs = c .args .readings .now in
-    let m = c .place-readings .last .memory in
+    let M = g.A.Arithmetic.meaning c.args.arithmetic.now in
+    let rs = c.args.readings.now in
+    let m = c.place-readings.new.memory in
     let long : length m ≡ 1040 = omega arith in
-    let e = c .in-Continue-value .ensures tt in
-    let low = c .args .limits .low in
-    let high = c .args .limits .high in
-    let x = c .in-Continue-value .value in
-    let low-fits : SFits w32 (c .low .result) = search needs in
-    let high-fits : SFits w32 (c .high .result) = search needs in
-    let given = c .limited .ensures in
-    let value : c .limited .result ≡ M .limited low high x =
+    let e = c.in-ok-value.ensures in
+    let low = c.args.limits.low in
+    let high = c.args.limits.high in
+    let x = c.in-ok-value.value in
+    let low_fits : SFits w32 c.low.result = search rules in
+    let high_fits : SFits w32 c.high.result = search rules in
+    let given = c.limited.ensures in
+    let value : c.limited.result ≡ M.limited low high x =
     given
-    ∙ ap (λ l. M .limited l (toZ w32 (ofZ w32 (c .high .result))) x) (toZ-ofZ w32 (c .low .result) low-fits ∙ c .low .ensures)
-    ∙ ap (λ u. M .limited low u x) (toZ-ofZ w32 (c .high .result) high-fits ∙ c .high .ensures) in
-    let law = g .A·Arithmetic·met .limits (c .args .arithmetic .now) low high x (c .args .limits .ordered) in
+    ∙ ap (λ l. M.limited l (to_z w32 (of_z w32 c.high.result)) x) (to_z-of_z w32 c.low.result low_fits ∙ c.low.ensures)
+    ∙ ap (λ u. M.limited low u x) (to_z-of_z w32 c.high.result high_fits ∙ c.high.ensures) in
+    let law = g.met.A.Arithmetic.limits c.args.arithmetic.now low high x c.args.limits.ordered in
     record {
-      answer = ap Ok value ∙ ap (mapped (M .limited low high)) (e .answer)
-          ∙ rate-is M rs m (c .args .code .now) low high long (c .if-readings-gt-MOST-VARIABLES .left) (c .place-readings .ensures);
-      within = subst (Within M low high) (sym value) (law .above, law .below);
+      answer = ap Ok value ∙ ap (mapped (M.limited low high)) e.answer
+          ∙ rate-is M rs m c.args.code.now low high long c.if-readings-gt-MOST-VARIABLES.false c.place-readings.ensures;
+      within = subst (Within M low high) (sym value) (law.above, law.below);
     }

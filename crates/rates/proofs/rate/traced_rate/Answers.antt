@@ -1,19 +1,19 @@
-use mathlib.Core.Path.{_≡_, sym, ap, _∙_}
-use Rattle·evaluator.specs.Outcomes.{mapped}
-use Rattle·rates·specs.Rates.{shown-number}
-use Rattle·rates·proofs.Tracing.{tracing-keeps-the-rate, absent-probes-did-not-enter}
-use Rattle·rates·proofs.rate.traced_rate.Needs as need
+use Rattle.std.proofs.Common.{◌≡◌, sym, ap, ◌∙◌}
+use Rattle.evaluator.specs.Outcomes.{mapped}
+use Rattle.rates.specs.Rates.{shown-number}
+use Rattle.rates.proofs.Tracing.{tracing-keeps-the-rate, absent-probes-did-not-enter}
+use Rattle.rates.proofs.rate.traced_rate.Goals as goal
 
-pub returns : need.returns
+pub returns : goal.returns
 returns c =
-    let low = c .args .limits .low in
-    let high = c .args .limits .high in
-    let bs = c .args .code .now in
-    let rs = c .args .readings .now in
-    let is = c .rate-within .ensures .answer in
+    let low = c.args.limits.low in
+    let high = c.args.limits.high in
+    let bs = c.args.code.now in
+    let rs = c.args.readings.now in
+    let is = c.rate-within.ensures.answer in
     record {
       answer = is;
-      within = c .rate-within .ensures .within;
+      within = c.rate-within.ensures.within;
       number = ap (mapped shown-number) is ∙ tracing-keeps-the-rate low high bs rs;
       probes = λ i others differ x ok absent. absent-probes-did-not-enter low high bs rs others i differ x (sym is ∙ ok) absent;
     }

@@ -1,5 +1,5 @@
-use Rattle·rules·proofs.Worked.{worked-numbers}
-use Rattle·rules·proofs.promises.worked_numbers.Needs as need
+use Rattle.rules.proofs.Worked.{worked-numbers}
+use Rattle.rules.proofs.promises.worked_numbers.Goals as goal
 
-pub returns : need.returns
+pub returns : goal.returns
 returns c = worked-numbers

@@ -1,7 +1,6 @@
-use mathlib.Core.Path.{sym}
-use denote.Ref.{now}
-use Rattle·stack·proofs.Stacking.{depth-is}
-use Rattle·stack·proofs.Stack.depth.Needs as need
+use Rattle.std.proofs.Common.{sym}
+use Rattle.stack.proofs.Stacking.{depth_is}
+use Rattle.stack.proofs.Stack.depth.Goals as goal
 
-pub returns : need.returns
-returns g c = let s = c .args .self .now in sym (depth-is (now (s .places)) (s .base) (s .depth) (s .fits))
+pub returns : goal.returns
+returns g c = let s = c.args.self.now in sym (depth_is s.places.now s.base s.depth s.fits)

@@ -1,17 +1,14 @@
-use mathlib.Core.Path.{_≡_, refl, sym, ap, _∙_}
-use native.Mathlib.Omega.{arith}
-use Prim.Native.Nat.{_-_, min}
-use lib.ListN.{length, take}
-use Rattle·stack·proofs.Stacking.{take-min}
-use Rattle·stack·proofs.Stack.new.Needs as need
+use Rattle.std.proofs.Common.{◌≡◌, ◌-◌, min, length, take, sym, refl, ap, ◌∙◌, arith}
+use Rattle.stack.proofs.Stacking.{take_min}
+use Rattle.stack.proofs.Stack.new.Goals as goal
 
-pub returns : need.returns
+pub returns : goal.returns
 returns g c =
-    let e = c .min .ensures in
+    let e = c.min.ensures in
     record {
       empty = refl;
       room = omega arith;
-      before = ap (λ n. take n (c .args .places .now)) e ∙ take-min (c .args .places .now) (c .args .base);
+      before = ap (λ n. take n c.args.places.now) e ∙ take_min c.args.places.now c.args.base;
       memory = refl;
       lender = refl;
     }

@@ -1,16 +1,12 @@
-use mathlib.Core.Path.{_≡_, refl, sym, ap}
-use Prim.Native.Nat.{_≤_, _+_}
-use native.Mathlib.Omega.{arith}
-use denote.Ref.{now}
-use lib.ListN.{length}
-use Rattle·stack·specs.Stacks.{popped-value, popped-rest}
-use Rattle·stack·proofs.Stacking.{last-first}
-use Rattle·stack·proofs.Stack.pop.Needs as need
+use Rattle.std.proofs.Common.{◌≡◌, ◌+◌, ◌≤◌, length, sym, refl, ap, arith}
+use Rattle.stack.specs.Stacks.{popped-value, popped-rest}
+use Rattle.stack.proofs.Stacking.{last-first}
+use Rattle.stack.proofs.Stack.pop.Goals as goal
 
-pub returns : need.returns
+pub returns : goal.returns
 returns g c =
-    let s = c .args .self .now in
-    let e = last-first (now (s .places)) (s .base) (s .depth) (c .at-value .result) (c .if-self-eq0 .left) (s .fits) (c .at-value .ensures) in
+    let s = c.args.self.now in
+    let e = last-first s.places.now s.base s.depth c.at-value.result c.if-self-eq0.false s.fits c.at-value.ensures in
     record {
       answer = sym (ap popped-value e);
       stacked = sym (ap popped-rest e);

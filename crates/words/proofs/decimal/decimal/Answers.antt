@@ -1,6 +1,6 @@
-use mathlib.Core.Path.{_∙_}
-use Rattle·words·proofs.Signs.{parsed-decimal}
-use Rattle·words·proofs.decimal.decimal.Needs as need
+use Rattle.std.proofs.Common.{◌∙◌}
+use Rattle.words.proofs.Signs.{parsed-decimal}
+use Rattle.words.proofs.decimal.decimal.Goals as goal
 
-pub returns : need.returns
-returns c = c .ok .ensures .value ∙ parsed-decimal (c .args .word .now) (c .parse .result) (c .parse .ensures .reads .0)
+pub returns : goal.returns
+returns c = c.ok.ensures.value ∙ parsed-decimal c.args.word.now c.parse.result c.parse.ensures.value.0

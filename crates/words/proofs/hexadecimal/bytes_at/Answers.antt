@@ -1,20 +1,16 @@
-use Prim.Native.Nat.{_-_, _≤_}
-use mathlib.Core.Path.{sym, ap, subst, _∙_}
-use borrow.Author.Needs.{needs}
-use lib.ListN.{length, getD, take, drop}
-use Rattle·std.specs.Of.Vec.{vec-items}
-use Rattle·std.specs.Results.{okPart}
-use Rattle·words·proofs.Bytes.{Bytes-so-far, bytes-none, bytes-more, two-bytes}
-use Rattle·words·proofs.hexadecimal.bytes_at.Needs as need
+use Rattle.std.proofs.Common.{◌-◌, ◌≤◌, length, get_or, take, drop, vec_items, sym, ap, ◌∙◌, subst, rules}
+use Rattle.std.specs.Result.{result_ok}
+use Rattle.words.proofs.Bytes.{Bytes-so-far, bytes-none, bytes-more, two_bytes}
+use Rattle.words.proofs.hexadecimal.bytes_at.Goals as goal
 
-pub loop-rest-holds : need.loop-rest-holds
-loop-rest-holds c =
-    subst (Bytes-so-far (c .args .word .now) (vec-items (c .new-bytes .result))) (sym (c .as-bytes-rest .ensures .value)) (bytes-none (c .args .word .now) _ (c .new-bytes .ensures .items))
+pub loop-rest-init : goal.loop-rest-init
+loop-rest-init c =
+    subst (Bytes-so-far c.args.word.now (vec_items c.new-bytes.result)) (sym c.as-bytes-rest.ensures.value) (bytes-none c.args.word.now _ c.new-bytes.ensures.items)
 
-pub loop-rest-again : need.loop-rest-again
-loop-rest-again c =
-    let rest = c .loop-rest .rest .now in
-    let two : 2 ≤ length rest = search needs in
-    let byte = sym (c .pair-value .ensures) ∙ c .ok-or .ensures .back ∙ ap okPart (c .in-Continue-byte .was tt) in
-    bytes-more (c .args .word .now) (vec-items (c .loop-rest .bytes)) (vec-items (c .push .last .self)) rest (getD rest 0 0) (getD rest 1 0) (c .in-Continue-byte .byte) (take (length rest - 2) (drop 2 rest)) (c .loop-rest .inv) (two-bytes rest two) byte
-    (c .in-Continue-push .ensures tt .items)
+pub loop-rest-preserved : goal.loop-rest-preserved
+loop-rest-preserved c =
+    let rest = c.loop-rest.rest.now in
+    let two : 2 ≤ length rest = search rules in
+    let byte = sym c.pair-value.ensures ∙ c.ok-or.ensures.ok-part ∙ ap result_ok c.in-ok-byte.was in
+    bytes-more c.args.word.now (vec_items c.loop-rest.bytes) (vec_items c.push.new.self) rest (get_or rest 0 0) (get_or rest 1 0) c.in-ok-byte.byte (take (length rest - 2) (drop 2 rest)) c.loop-rest.invariant (two_bytes rest two) byte
+    c.in-ok-push.ensures.items

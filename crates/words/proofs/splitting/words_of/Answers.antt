@@ -1,19 +1,18 @@
-use mathlib.Core.Path.{ap, sym, subst, _∙_}
-use Rattle·std.specs.Of.Vec.{vec-items}
-use Rattle·std.specs.Parts.{split-whitespace-rest}
-use Rattle·words·proofs.Parted.{Sofar, first-of, none-yet, one-more, no-more}
-use Rattle·words·proofs.splitting.words_of.Needs as need
+use Rattle.std.proofs.Common.{vec_items, sym, ap, ◌∙◌, subst}
+use Rattle.std.specs.Str.Iter.{split_whitespace_rest}
+use Rattle.words.proofs.Parted.{Sofar, first_of, none_yet, one_more, no_more}
+use Rattle.words.proofs.splitting.words_of.Goals as goal
 
-pub loop-word-holds : need.loop-word-holds
-loop-word-holds c =
-    let whole = ap split-whitespace-rest (c .into-iter-word-iterator .ensures .becomes) ∙ c .split-whitespace-word-items .ensures .rest in
-    subst (λ rest. Sofar (c .args .text .now) rest (vec-items (c .new-words .result))) (sym whole) (none-yet (c .args .text .now) _ (c .new-words .ensures .items))
+pub loop-word-init : goal.loop-word-init
+loop-word-init c =
+    let whole = ap split_whitespace_rest c.into-iter-word-iterator.ensures.into-iter-gives ∙ c.split-whitespace-word-items.ensures.rest in
+    subst (λ rest. Sofar c.args.text.now rest (vec_items c.new-words.result)) (sym whole) (none_yet c.args.text.now _ c.new-words.ensures.items)
 
-pub loop-word-again : need.loop-word-again
-loop-word-again c =
-    let rest = split-whitespace-rest (c .loop-word .word-iterator) in
-    let after = split-whitespace-rest (c .next .last .self) in
-    one-more (c .args .text .now) rest after (vec-items (c .loop-word .words)) (vec-items (c .push .last .self)) (c .in-Some .word) (c .loop-word .inv) (first-of rest (c .in-Some .word .now) after (c .in-Some .ensures tt .steps)) (c .in-Continue-push .ensures tt .items)
+pub loop-word-preserved : goal.loop-word-preserved
+loop-word-preserved c =
+    let rest = split_whitespace_rest c.loop-word.word-iterator in
+    let after = split_whitespace_rest c.next.new.self in
+    one_more c.args.text.now rest after (vec_items c.loop-word.words) (vec_items c.push.new.self) c.in-Some.word c.loop-word.invariant (first_of rest c.in-Some.word.now after c.in-Some.ensures.steps) c.in-ok-push.ensures.items
 
-pub returns : need.returns
-returns c = no-more _ _ _ (c .loop-word .inv) (c .in-None .ensures tt .steps .1)
+pub returns : goal.returns
+returns c = no_more _ _ _ c.loop-word.invariant c.in-None.ensures.steps.1

@@ -1,22 +1,19 @@
 -- There is a place for the declaration, and it stands behind the others.
-use Prim.Native.Nat.{_≤_, _+_}
-use native.Mathlib.Omega.{arith}
-use mathlib.Core.Path.{_∙_}
-use lib.ListN.{length-set}
-use Rattle·declarations·proofs.Held.{held-room, held-more}
-use Rattle·declarations·proofs.list.Declarations.push.Needs as need
+use Rattle.std.proofs.Common.{◌+◌, ◌≤◌, ◌∙◌, arith, length-set}
+use Rattle.declarations.proofs.Held.{held-room, held_more}
+use Rattle.declarations.proofs.list.Declarations.push.Goals as goal
 
-pub listed : need.listed
-listed c = let s = c .args .self .now in held-room (s .list) (s .count) (s .long) (s .fits) (c .pre)
+pub listed : goal.listed
+listed c = let s = c.args.self.now in held-room s.list s.count s.long s.fits c.requires
 
-pub index-self-self : need.index-self-self
-index-self-self c = let s = c .args .self .now in omega (arith, held-room (s .list) (s .count) (s .long) (s .fits) (c .pre), s .long)
+pub bounds-self-self : goal.bounds-self-self
+bounds-self-self c = let s = c.args.self.now in omega (arith, held-room s.list s.count s.long s.fits c.requires, s.long)
 
-pub ghost-self : need.ghost-self
-ghost-self c =
-    let s = c .args .self .now in
-    let h : s .count + 1 ≤ 32 = omega (arith, held-room (s .list) (s .count) (s .long) (s .fits) (c .pre), s .long) in
-    (length-set (s .list) (s .count) (c .args .declaration) ∙ s .long, (h, tt))
+pub invariant-of-self : goal.invariant-of-self
+invariant-of-self c =
+    let s = c.args.self.now in
+    let h : s.count + 1 ≤ 32 = omega (arith, held-room s.list s.count s.long s.fits c.requires, s.long) in
+    (length-set s.list s.count c.args.declaration ∙ s.long, (h, tt))
 
-pub returns : need.returns
-returns c = let s = c .args .self .now in held-more (s .list) (s .count) (c .args .declaration) (held-room (s .list) (s .count) (s .long) (s .fits) (c .pre))
+pub returns : goal.returns
+returns c = let s = c.args.self.now in held_more s.list s.count c.args.declaration (held-room s.list s.count s.long s.fits c.requires)

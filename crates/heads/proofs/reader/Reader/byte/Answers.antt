@@ -1,15 +1,14 @@
 -- The first bytes of what is left.
-use borrow.Author.Needs.{needs}
-use mathlib.Core.Path.{refl}
-use Rattle·heads·proofs.Lefts.{rest-short, byte-taken, onward}
-use Rattle·heads·proofs.reader.Reader.byte.Needs as need
+use Rattle.std.proofs.Common.{refl, rules}
+use Rattle.heads.proofs.Lefts.{rest-short, byte-taken, onward}
+use Rattle.heads.proofs.reader.Reader.byte.Goals as goal
 
-pub sub-self : need.sub-self
-sub-self c = rest-short (c .args .self .now .program .now) (c .args .self .now .place) (c .args .self .now .end) (c .args .self .now .within) (c .args .self .now .inside) (c .left .result .now) (c .left .ensures) 1
+pub overflow-sub-self : goal.overflow-sub-self
+overflow-sub-self c = rest-short c.args.self.now.program.now c.args.self.now.place c.args.self.now.end c.args.self.now.within c.args.self.now.inside c.left.result.now c.left.ensures 1
 
-pub returns-in-len1-up : need.returns-in-len1-up
+pub returns-in-len1-up : goal.returns-in-len1-up
 returns-in-len1-up c =
     record {
-      answer = byte-taken (c .args .self .now .program .now) (c .args .self .now .place) (c .args .self .now .end) (c .args .self .now .within) (c .args .self .now .inside) (c .left .result .now) (c .left .ensures) (c .args .statement) (c .args .wanted) (c .if-not-wanted .left) (search needs);
-      block = record { program = refl; end = refl; onward = onward (c .args .self .now .program .now) (c .args .self .now .place) (c .args .self .now .end) (c .args .self .now .within) (c .args .self .now .inside) (c .left .result .now) (c .left .ensures) 1 (search needs) };
+      answer = byte-taken c.args.self.now.program.now c.args.self.now.place c.args.self.now.end c.args.self.now.within c.args.self.now.inside c.left.result.now c.left.ensures c.args.statement c.args.wanted c.if-not-wanted.false (search rules);
+      block = record { program = refl; end = refl; onward = onward c.args.self.now.program.now c.args.self.now.place c.args.self.now.end c.args.self.now.within c.args.self.now.inside c.left.result.now c.left.ensures 1 (search rules) };
     }

@@ -1,16 +1,15 @@
 -- The first byte of what is left.
-use borrow.Author.Needs.{needs}
-use mathlib.Core.Path.{refl}
-use Rattle·heads·proofs.Lefts.{rest-short, command-taken, none-left, onward}
-use Rattle·heads·proofs.reader.Reader.command.Needs as need
+use Rattle.std.proofs.Common.{refl, rules}
+use Rattle.heads.proofs.Lefts.{rest-short, command-taken, none_left, onward}
+use Rattle.heads.proofs.reader.Reader.command.Goals as goal
 
-pub returns-in-rest : need.returns-in-rest
-returns-in-rest c =
-    let none = none-left (c .args .self .now .program .now) (c .args .self .now .place) (c .args .self .now .end) (c .args .self .now .within) (c .args .self .now .inside) (c .left .result .now) (c .left .ensures) (search needs) in
-    record { answer = (none, none); block = search needs }
+pub returns-in-default : goal.returns-in-default
+returns-in-default c =
+    let none = none_left c.args.self.now.program.now c.args.self.now.place c.args.self.now.end c.args.self.now.within c.args.self.now.inside c.left.result.now c.left.ensures (search rules) in
+    record { answer = (none, none); block = search rules }
 
-pub sub-self : need.sub-self
-sub-self c = rest-short (c .args .self .now .program .now) (c .args .self .now .place) (c .args .self .now .end) (c .args .self .now .within) (c .args .self .now .inside) (c .left .result .now) (c .left .ensures) 1
+pub overflow-sub-self : goal.overflow-sub-self
+overflow-sub-self c = rest-short c.args.self.now.program.now c.args.self.now.place c.args.self.now.end c.args.self.now.within c.args.self.now.inside c.left.result.now c.left.ensures 1
 
-pub returns : need.returns
-returns c = record { answer = command-taken (c .args .self .now .program .now) (c .args .self .now .place) (c .args .self .now .end) (c .args .self .now .within) (c .args .self .now .inside) (c .left .result .now) (c .left .ensures) (search needs); block = record { program = refl; end = refl; onward = onward (c .args .self .now .program .now) (c .args .self .now .place) (c .args .self .now .end) (c .args .self .now .within) (c .args .self .now .inside) (c .left .result .now) (c .left .ensures) 1 (search needs) } }
+pub returns : goal.returns
+returns c = record { answer = command-taken c.args.self.now.program.now c.args.self.now.place c.args.self.now.end c.args.self.now.within c.args.self.now.inside c.left.result.now c.left.ensures (search rules); block = record { program = refl; end = refl; onward = onward c.args.self.now.program.now c.args.self.now.place c.args.self.now.end c.args.self.now.within c.args.self.now.inside c.left.result.now c.left.ensures 1 (search rules) } }

@@ -1,7 +1,7 @@
 -- The place before the place.
-use mathlib.Core.Path.{_∙_}
-use Rattle·heads·proofs.Lefts.{before-left}
-use Rattle·heads·proofs.reader.Reader.statement.Needs as need
+use Rattle.std.proofs.Common.{◌∙◌}
+use Rattle.heads.proofs.Lefts.{before-left}
+use Rattle.heads.proofs.reader.Reader.statement.Goals as goal
 
-pub returns : need.returns
-returns c = c .saturating-sub .ensures ∙ before-left (c .args .self .now .program .now) (c .args .self .now .place) (c .args .self .now .end) (c .args .self .now .within) (c .args .self .now .inside)
+pub returns : goal.returns
+returns c = c.saturating-sub.ensures ∙ before-left c.args.self.now.program.now c.args.self.now.place c.args.self.now.end c.args.self.now.within c.args.self.now.inside

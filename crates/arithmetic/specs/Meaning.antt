@@ -36,13 +36,13 @@ pub record Nearest (low high z r : ℤ) : Type 0 where
 
 module _ {V : Type 0} (M : Meaning V) where
   -- A constant shows itself.
-  abbrev pub Constants-show-themselves : Type 0
-  Constants-show-themselves = (n : ℤ) → FitsSigned w32 n → M.shows (M.constant n) ≡ n
+  abbrev pub ConstantsShowThemselves : Type 0
+  ConstantsShowThemselves = (n : ℤ) → FitsSigned w32 n → M.shows (M.constant n) ≡ n
 
   -- A reading shows itself.
-  abbrev pub Readings-show-themselves : Type 0
-  Readings-show-themselves = (i : ℕ) (n : ℤ) → FitsSigned w32 n → M.shows (M.reading i n) ≡ n
+  abbrev pub ReadingsShowThemselves : Type 0
+  ReadingsShowThemselves = (i : ℕ) (n : ℤ) → FitsSigned w32 n → M.shows (M.reading i n) ≡ n
 
   -- A limited value shows the number from low to high that is nearest to the one shown before.
-  abbrev pub Limits-to-the-nearest : Type 0
-  Limits-to-the-nearest = (low high : ℤ) (x : V) → low ≤ℤ high → Nearest low high (M.shows x) (M.shows (M.limited low high x))
+  abbrev pub LimitsToTheNearest : Type 0
+  LimitsToTheNearest = (low high : ℤ) (x : V) → low ≤ℤ high → Nearest low high (M.shows x) (M.shows (M.limited low high x))

@@ -21,42 +21,42 @@ abbrev pub same : ℤ → ℤ → Bool
 same a b = not (int_lt a b) && not (int_lt b a)
 
 -- Sum, difference and product stop at the ends of the range; then the lesser, the greater, and 1 or 0 for first < second and for equal.
-abbrev pub plain-two : Operator → ℤ → ℤ → ℤ
-plain-two Add a b = stopped (a +ℤ b)
-plain-two Subtract a b = stopped (a -ℤ b)
-plain-two Multiply a b = stopped (a *ℤ b)
-plain-two Lesser a b = int_min a b
-plain-two Greater a b = int_max a b
-plain-two LessThan a b = truth (int_lt a b)
-plain-two Equal a b = truth (same a b)
+abbrev pub plain_two : Operator → ℤ → ℤ → ℤ
+plain_two Add a b = stopped (a +ℤ b)
+plain_two Subtract a b = stopped (a -ℤ b)
+plain_two Multiply a b = stopped (a *ℤ b)
+plain_two Lesser a b = int_min a b
+plain_two Greater a b = int_max a b
+plain_two LessThan a b = truth (int_lt a b)
+plain_two Equal a b = truth (same a b)
 
 -- `not` gives 1 for 0, else 0.
-abbrev pub plain-not : ℤ → ℤ
-plain-not a = truth (same a (pos 0))
+abbrev pub plain_not : ℤ → ℤ
+plain_not a = truth (same a (pos 0))
 
 -- An operation gives what its operator gives of the values that it takes.
-abbrev pub plain-operated : Operation ℤ → ℤ
-plain-operated (two o a b) = plain-two o a b
-plain-operated (inverse a) = plain-not a
+abbrev pub plain_operated : Operation ℤ → ℤ
+plain_operated (two o a b) = plain_two o a b
+plain_operated (inverse a) = plain_not a
 
 -- Over high is high, then under low is low.
 abbrev pub clamped : (low high z : ℤ) → ℤ
 clamped low high z = int_max low (int_min z high)
 
 -- The sum, stopped at the ends of the range, the lesser or the greater of two copies, or the first copy.
-abbrev pub plain-combined : Combining → ℤ → ℤ → ℤ
-plain-combined Sum a b = stopped (a +ℤ b)
-plain-combined Least a b = int_min a b
-plain-combined Greatest a b = int_max a b
-plain-combined Left a b = a
+abbrev pub plain_combined : Combining → ℤ → ℤ → ℤ
+plain_combined Sum a b = stopped (a +ℤ b)
+plain_combined Least a b = int_min a b
+plain_combined Greatest a b = int_max a b
+plain_combined Left a b = a
 
 -- Constants and readings are numbers, and a number shows itself; the other functions are the definitions above.
 abbrev pub plain : Meaning ℤ
 plain = record {
   constant = λ n. n;
   reading = λ i n. n;
-  operated = plain-operated;
+  operated = plain_operated;
   shows = λ a. a;
   limited = clamped;
-  combined = plain-combined;
+  combined = plain_combined;
 }

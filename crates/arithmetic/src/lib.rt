@@ -1,6 +1,6 @@
 //! Arithmetics: what a value is, what the operators do to values, and the number that a value shows.
 ghost use Rattle.std.specs.Prelude.{◌≡◌, ℤ};
-ghost use Rattle.arithmetic.specs.Meaning.{Meaning, two, inverse, Constants-show-themselves, Readings-show-themselves, Limits-to-the-nearest};
+ghost use Rattle.arithmetic.specs.Meaning.{Meaning, two, inverse, ConstantsShowThemselves, ReadingsShowThemselves, LimitsToTheNearest};
 
 pub mod operators;
 pub mod plain;
@@ -46,9 +46,9 @@ pub trait Arithmetic {
     fn combined(&self, operator: Combining, first: Self::Value, second: Self::Value) -> Self::Value
         ensures { result ≡ (meaning self.now).combined operator first second };
 
-    ghost constants: { (a : Self) → Constants-show-themselves (meaning a) };
+    ghost constants: { (a : Self) → ConstantsShowThemselves (meaning a) };
 
-    ghost readings: { (a : Self) → Readings-show-themselves (meaning a) };
+    ghost readings: { (a : Self) → ReadingsShowThemselves (meaning a) };
 
-    ghost limits: { (a : Self) → Limits-to-the-nearest (meaning a) };
+    ghost limits: { (a : Self) → LimitsToTheNearest (meaning a) };
 }

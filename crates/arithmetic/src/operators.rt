@@ -1,6 +1,6 @@
 //! The operators of expressions, those that combine two copies, and the numbers that programs give them.
 ghost use Rattle.std.specs.Prelude.{◌≡◌, MatchOption};
-ghost use Rattle.arithmetic.specs.Operators.{operator-byte, combining-number, No-operator, No-combining};
+ghost use Rattle.arithmetic.specs.Operators.{operator_byte, combining_number, NoOperator, NoCombining};
 
 /// An operator of an expression that takes two values.
 #[derive(Clone, Copy)]
@@ -26,7 +26,7 @@ pub enum Combining {
 impl Operator {
     /// The operator of a command byte, if it has one.
     pub fn from_byte(byte: u8) -> Option<Operator>
-        ensures { MatchOption result (No-operator byte) (λ o. operator-byte o ≡ byte) }
+        ensures { MatchOption result (NoOperator byte) (λ o. operator_byte o ≡ byte) }
     {
         match byte {
             0x42 => Some(Operator::Add),
@@ -42,7 +42,7 @@ impl Operator {
 
     /// The command byte of an operator.
     pub fn byte(self) -> u8
-        ensures { result ≡ operator-byte self }
+        ensures { result ≡ operator_byte self }
     {
         match self {
             Operator::Add => 0x42,
@@ -59,7 +59,7 @@ impl Operator {
 impl Combining {
     /// The operator that a declaration's number stands for, if there is one.
     pub fn from_number(number: u8) -> Option<Combining>
-        ensures { MatchOption result (No-combining number) (λ o. combining-number o ≡ number) }
+        ensures { MatchOption result (NoCombining number) (λ o. combining_number o ≡ number) }
     {
         match number {
             0 => Some(Combining::Sum),
@@ -72,7 +72,7 @@ impl Combining {
 
     /// The number of the operator in a declaration.
     pub fn number(self) -> u8
-        ensures { result ≡ combining-number self }
+        ensures { result ≡ combining_number self }
     {
         match self {
             Combining::Sum => 0,

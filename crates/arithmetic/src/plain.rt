@@ -1,6 +1,6 @@
 //! The plain arithmetic: signed 32-bit numbers.
 ghost use Rattle.arithmetic.specs.Plain.{plain};
-ghost use Rattle.arithmetic.specs.Nearest.{clamped-nearest};
+ghost use Rattle.arithmetic.specs.Nearest.{clamped_nearest};
 ghost use Rattle.std.proofs.Common.{rules};
 
 use crate::Arithmetic;
@@ -19,7 +19,7 @@ impl Arithmetic for Plain {
 
     ghost readings = { Prim.search rules };
 
-    ghost limits = { λ a low high x h. clamped-nearest low high x h };
+    ghost limits = { λ a low high x h. clamped_nearest low high x h };
 
     fn constant(&self, number: i32) -> i32 {
         number

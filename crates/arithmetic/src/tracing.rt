@@ -1,6 +1,6 @@
 //! The tracing arithmetic: the plain number, and which probes it depends on.
 ghost use Rattle.std.specs.Prelude.{◌≡◌};
-ghost use Rattle.arithmetic.specs.Tracing.{tracing, traced, probe-bit};
+ghost use Rattle.arithmetic.specs.Tracing.{tracing, traced, probe_bit};
 ghost use Rattle.std.proofs.Common.{rules};
 
 use crate::Arithmetic;
@@ -14,7 +14,7 @@ pub struct Tracing {}
 
 /// The mask of one input variable: its own bit, and none for a number over 31.
 pub fn probe_mask(input: u8) -> u32
-    ensures { result ≡ probe-bit input }
+    ensures { result ≡ probe_bit input }
 {
     if input < 32 { 1 << input } else { 0 }
 }

@@ -1,6 +1,6 @@
 //! Why an expression has no value.
 ghost use Rattle.std.specs.Prelude.{◌≡◌};
-ghost use Rattle.bounds.specs.Refusals.{refusal-number, refusal-place};
+ghost use Rattle.bounds.specs.Refusals.{refusal_number, refusal_place};
 
 /// Why an expression has no value; with the place of the command concerned, counted from the expression's byte 0.
 #[derive(Clone, Copy, PartialEq, Eq, Debug)]
@@ -14,7 +14,7 @@ pub enum Refusal {
 impl Refusal {
     /// The number by which the outside world knows the refusal.
     pub fn number(self) -> u8
-        ensures { result ≡ refusal-number self }
+        ensures { result ≡ refusal_number self }
     {
         match self {
             Refusal::BadExpression(_) => 6,
@@ -26,7 +26,7 @@ impl Refusal {
 
     /// The place that it carries.
     pub fn place(self) -> usize
-        ensures { result ≡ refusal-place self }
+        ensures { result ≡ refusal_place self }
     {
         match self {
             Refusal::BadExpression(place) => place,

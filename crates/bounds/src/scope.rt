@@ -1,6 +1,6 @@
 //! Which variables an expression can read, and where their values lie.
 ghost use Rattle.std.specs.Prelude.{◌≡◌, ℕ, cond, Some, None, Option};
-ghost use Rattle.bounds.specs.Scopes.{first-places};
+ghost use Rattle.bounds.specs.Scopes.{first_places};
 
 /// The place in the value memory of each variable that can be read.
 pub trait Scope {
@@ -18,7 +18,7 @@ pub struct FirstPlaces {
 }
 
 impl Scope for FirstPlaces {
-    ghost places = { λ s. first-places s.count };
+    ghost places = { λ s. first_places s.count };
 
     fn place(&self, variable: u8) -> Option<usize> {
         let place = variable as usize;

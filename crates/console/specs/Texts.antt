@@ -1,7 +1,7 @@
 -- The text of each answer.
 use Rattle.std.specs.Prelude.{ℕ, List, [], ◌++◌, Some, None, codes, decimal, Option}
 use Rattle.std.specs.Fmt.{signed_decimal, option_append}
-use Rattle.bounds.specs.Refusals.{refusal-number, refusal-place}
+use Rattle.bounds.specs.Refusals.{refusal_number, refusal_place}
 use Rattle.console.specs.declared.answer.Answer.{Answer}
 use Rattle.console.specs.declared.answer.Answer.TheVariants.{Nothing, Evaluated, Refused, Summary}
 use Rattle.console.specs.declared.answer.Rate.{Rate}
@@ -9,18 +9,18 @@ use Rattle.console.specs.declared.answer.Rate.TheVariants.{Plain, Traced}
 use Rattle.console.specs.declared.tally.Tally.{Tally}
 
 -- A summary says: loads L ticks T steps S refusals R longest tick K of LENGTH.
-abbrev pub tally-text : Tally → List ℕ
-tally-text t =
+abbrev pub tally_text : Tally → List ℕ
+tally_text t =
     codes "loads " ++ (decimal t.loads ++ (codes " ticks " ++ (decimal t.ticks ++ (codes " steps " ++ (decimal t.steps ++ (codes " refusals " ++ (decimal t.refusals ++ (codes " longest tick " ++ (decimal t.longest_tick ++ (codes " of " ++ decimal t.tick_length))))))))))
 
 -- A plain rate is its number and `-`; of the text of a traced rate nothing is said.
-abbrev pub rate-text : Rate → Option (List ℕ)
-rate-text (Plain n) = Some (signed_decimal n ++ codes " -")
-rate-text (Traced x) = None
+abbrev pub rate_text : Rate → Option (List ℕ)
+rate_text (Plain n) = Some (signed_decimal n ++ codes " -")
+rate_text (Traced x) = None
 
 -- An answer begins with the name of its command; a line that has no answer prints no text.
-abbrev pub answer-text : Answer → Option (List ℕ)
-answer-text Nothing = Some []
-answer-text (Evaluated r) = option_append (Some (codes "evaluate: ")) (rate-text r)
-answer-text (Refused e) = Some (codes "evaluate: refused " ++ (decimal (refusal-number e) ++ (codes " place " ++ decimal (refusal-place e))))
-answer-text (Summary t) = Some (codes "summary: " ++ tally-text t)
+abbrev pub answer_text : Answer → Option (List ℕ)
+answer_text Nothing = Some []
+answer_text (Evaluated r) = option_append (Some (codes "evaluate: ")) (rate_text r)
+answer_text (Refused e) = Some (codes "evaluate: refused " ++ (decimal (refusal_number e) ++ (codes " place " ++ decimal (refusal_place e))))
+answer_text (Summary t) = Some (codes "summary: " ++ tally_text t)

@@ -1,5 +1,5 @@
 //! What the console answers to a line.
-ghost use Rattle.console.specs.Texts.{rate-text, answer-text};
+ghost use Rattle.console.specs.Texts.{rate_text, answer_text};
 
 use crate::tally::Tally;
 use arithmetic::traced::Traced;
@@ -23,7 +23,7 @@ pub enum Answer {
 }
 
 impl fmt::Display for Rate {
-    ghost output = { rate-text };
+    ghost output = { rate_text };
 
     fn fmt<W: fmt::Write>(&self, f: &mut fmt::Formatter<W>) -> fmt::Result {
         match *self {
@@ -34,7 +34,7 @@ impl fmt::Display for Rate {
 }
 
 impl fmt::Display for Answer {
-    ghost output = { answer-text };
+    ghost output = { answer_text };
 
     fn fmt<W: fmt::Write>(&self, f: &mut fmt::Formatter<W>) -> fmt::Result {
         match *self {

@@ -1,7 +1,7 @@
 //! A job under way: the arithmetic that it has chosen, and what it has done.
 ghost use Rattle.std.specs.Prelude.{◌≡◌};
-ghost use Rattle.lines.specs.Lines.{said, evaluation-said};
-ghost use Rattle.console.specs.Sessions.{fresh, evaluated-by, rated, counted, performed, answered, Took};
+ghost use Rattle.lines.specs.Lines.{said, evaluation_said};
+ghost use Rattle.console.specs.Sessions.{fresh, evaluated_by, rated, counted, performed, answered, Took};
 
 use crate::answer::{Answer, Rate};
 use crate::tally::Tally;
@@ -21,7 +21,7 @@ pub struct Session {
 
 // The rate of an evaluation in an arithmetic.
 fn rate_in(choice: Choice, evaluation: &Evaluation) -> Result<Rate, Refusal>
-    ensures { result ≡ evaluated-by choice (evaluation-said evaluation.now) }
+    ensures { result ≡ evaluated_by choice (evaluation_said evaluation.now) }
 {
     let limits = evaluation.limits;
     let code = evaluation.code.as_slice();
@@ -53,8 +53,8 @@ impl Session {
 
     // Evaluates in the chosen arithmetic, and counts a refusal.
     fn evaluate(&mut self, evaluation: &Evaluation) -> Answer
-        ensures answer { result ≡ rated (evaluated-by self.old.choice (evaluation-said evaluation.now)) }
-        ensures tally { self.new.tally ≡ counted (evaluated-by self.old.choice (evaluation-said evaluation.now)) self.old.tally }
+        ensures answer { result ≡ rated (evaluated_by self.old.choice (evaluation_said evaluation.now)) }
+        ensures tally { self.new.tally ≡ counted (evaluated_by self.old.choice (evaluation_said evaluation.now)) self.old.tally }
         ensures choice { self.new.choice ≡ self.old.choice }
     {
         match rate_in(self.choice, evaluation) {

@@ -1,6 +1,6 @@
 //! What a job has done so far.
 ghost use Rattle.std.specs.Prelude.{Some};
-ghost use Rattle.console.specs.Texts.{tally-text};
+ghost use Rattle.console.specs.Texts.{tally_text};
 
 use std::fmt;
 
@@ -16,7 +16,7 @@ pub struct Tally {
 }
 
 impl fmt::Display for Tally {
-    ghost output = { λ t. Some (tally-text t) };
+    ghost output = { λ t. Some (tally_text t) };
 
     fn fmt<W: fmt::Write>(&self, f: &mut fmt::Formatter<W>) -> fmt::Result {
         let Tally {

@@ -3,12 +3,12 @@ use Rattle.std.proofs.Common.{◌≡◌, ℕ, zero, suc, ◌+◌, ◌-◌, ◌*�
 use Rattle.std.proofs.lemmas.List.{length-drop, drop-drop}
 use Rattle.std.proofs.lemmas.Bool.{leb-true, le-leb, lt-leb}
 use Rattle.rules.specs.Outcomes.{◌>>=◌, ensure}
-use Rattle.rules.specs.Reading.{read-declaration, read-declarations}
+use Rattle.rules.specs.Reading.{read_declaration, read_declarations}
 use Rattle.rules.specs.Variables.{Variable}
 use Rattle.rules.specs.declared.faults.LoadFault.{LoadFault}
 use Rattle.rules.specs.declared.faults.LoadFault.TheVariants.{CutDeclaration, BadDeclaration}
 use Rattle.rules.specs.declared.faults.ReadingFault.TheVariants.{Cut}
-use Rattle.declarations.specs.Listing.{first-declaration, declarations-in}
+use Rattle.declarations.specs.Listing.{first_declaration, declarations_in}
 
 -- Declarations, and the bytes after them.
 abbrev pub Several : Type 0
@@ -25,14 +25,14 @@ behind ds (Err f) = Err f
 
 module _ {A B : Type 0} (f : LoadFault) (r : Result A LoadFault) (k : A → Result B LoadFault) where
   -- A test before a row of two stands before its first part.
-  test-first : (b : Bool) → (ensure b f >>= λ _. r >>= k) ≡ (ensure b f >>= (λ _. r) >>= k)
-  test-first true = refl
-  test-first false = refl
+  test_first : (b : Bool) → (ensure b f >>= λ _. r >>= k) ≡ (ensure b f >>= (λ _. r) >>= k)
+  test_first true = refl
+  test_first false = refl
 
 module _ (n e : ℕ) (bs : List ℕ) where
   -- The first declaration is read alone, and then the others.
-  first_alone : read-declarations (suc n) e bs ≡ (first-declaration e bs >>= λ d. read-declarations n e (drop 16 bs) >>= with_first d)
-  first_alone = test-first (CutDeclaration (Cut (e - length bs))) (read-declaration (BadDeclaration (e - length bs)) (take 16 bs)) (λ d. read-declarations n e (drop 16 bs) >>= with_first d) (leb 16 (length bs))
+  first_alone : read_declarations (suc n) e bs ≡ (first_declaration e bs >>= λ d. read_declarations n e (drop 16 bs) >>= with_first d)
+  first_alone = test_first (CutDeclaration (Cut (e - length bs))) (read_declaration (BadDeclaration (e - length bs)) (take 16 bs)) (λ d. read_declarations n e (drop 16 bs) >>= with_first d) (leb 16 (length bs))
 
 module _ (ds : List Variable) (d : Variable) where
   -- A declaration between those before and those after is the last of the former.
@@ -47,60 +47,60 @@ held_test false f r x h = let z : ◌≡◌ {A = ℕ} 0 1 = cc in absurd (omega 
 
 module _ (p : List ℕ) (i : ℕ) (h : i ≤ length p) where
   -- What is left of a program begins at the place that it was cut off at.
-  place-there : length p - length (drop i p) ≡ i
-  place-there = simp length-drop (omega arith)
+  place_there : length p - length (drop i p) ≡ i
+  place_there = simp length-drop (omega arith)
 
   -- Fewer than 16 bytes are a cut declaration.
-  pub cut-there : length p - i < 16 → Err (CutDeclaration (Cut i)) ≡ first-declaration (length p) (drop i p)
-  cut-there k =
+  pub cut_there : length p - i < 16 → Err (CutDeclaration (Cut i)) ≡ first_declaration (length p) (drop i p)
+  cut_there k =
       let b : leb 16 (length (drop i p)) ≡ false = lt-leb 16 (length (drop i p)) (simp length-drop k) in
-      sym (rw (b, place-there))
+      sym (rw (b, place_there))
 
   -- 16 bytes are a declaration at that place.
-  pub whole-there : 16 ≤ length p - i → (r : Result Variable LoadFault) → r ≡ read-declaration (BadDeclaration i) (take 16 (drop i p)) → r ≡ first-declaration (length p) (drop i p)
-  whole-there k r e =
+  pub whole_there : 16 ≤ length p - i → (r : Result Variable LoadFault) → r ≡ read_declaration (BadDeclaration i) (take 16 (drop i p)) → r ≡ first_declaration (length p) (drop i p)
+  whole_there k r e =
       let b : leb 16 (length (drop i p)) ≡ true = le-leb 16 (length (drop i p)) (simp length-drop k) in
-      rw (b, place-there) e
+      rw (b, place_there) e
 
 -- Declarations `ds` are read of a program, and n are left from place i on.
 pub record Ahead (p : List ℕ) (ds : List Variable) (n i : ℕ) : Type 0 where
   pub within : i ≤ length p
-  pub gives : behind ds (read-declarations n (length p) (drop i p)) ≡ declarations-in p
+  pub gives : behind ds (read_declarations n (length p) (drop i p)) ≡ declarations_in p
 
 module _ (p : List ℕ) (ds : List Variable) (n i : ℕ) (a : Ahead p ds (suc n) i) where
   -- The next declaration is read.
-  one-read : (d : Variable) → Ok d ≡ first-declaration (length p) (drop i p) → Ahead p (ds ++ d ∷ []) n (i + 16)
-  one-read d e =
+  one_read : (d : Variable) → Ok d ≡ first_declaration (length p) (drop i p) → Ahead p (ds ++ d ∷ []) n (i + 16)
+  one_read d e =
       let l = leb-true 16 (length (drop i p)) (held_test _ _ _ d (sym e)) in
       record {
         within = omega (arith, length-drop i p, a.within);
         gives =
-            ap (λ l. behind (ds ++ d ∷ []) (read-declarations n (length p) l)) (sym (drop-drop 16 i p))
-            ∙ sym (between ds d (read-declarations n (length p) (drop 16 (drop i p))))
-            ∙ ap (λ r. behind ds (r >>= λ d. read-declarations n (length p) (drop 16 (drop i p)) >>= with_first d)) e
+            ap (λ l. behind (ds ++ d ∷ []) (read_declarations n (length p) l)) (sym (drop-drop 16 i p))
+            ∙ sym (between ds d (read_declarations n (length p) (drop 16 (drop i p))))
+            ∙ ap (λ r. behind ds (r >>= λ d. read_declarations n (length p) (drop 16 (drop i p)) >>= with_first d)) e
             ∙ sym (ap (behind ds) (first_alone n (length p) (drop i p)))
             ∙ a.gives;
       }
 
   -- The next declaration is refused, and so are all.
-  one-refused : (f : LoadFault) → Err f ≡ first-declaration (length p) (drop i p) → Err f ≡ declarations-in p
-  one-refused f e = ap (λ r. behind ds (r >>= λ d. read-declarations n (length p) (drop 16 (drop i p)) >>= with_first d)) e ∙ sym (ap (behind ds) (first_alone n (length p) (drop i p))) ∙ a.gives
+  one_refused : (f : LoadFault) → Err f ≡ first_declaration (length p) (drop i p) → Err f ≡ declarations_in p
+  one_refused f e = ap (λ r. behind ds (r >>= λ d. read_declarations n (length p) (drop 16 (drop i p)) >>= with_first d)) e ∙ sym (ap (behind ds) (first_alone n (length p) (drop i p))) ∙ a.gives
 
 module _ (p : List ℕ) (ds : List Variable) (count k : ℕ) (h : k < count) (a : Ahead p ds (count - k) (1 + 16 * k)) where
   -- Of the declarations that are left, one is the next.
-  one-next : Ahead p ds (suc (count - (k + 1))) (1 + 16 * k)
-  one-next = let e : count - k ≡ suc (count - (k + 1)) = omega arith in subst (λ n. Ahead p ds n (1 + 16 * k)) e a
+  one_next : Ahead p ds (suc (count - (k + 1))) (1 + 16 * k)
+  one_next = let e : count - k ≡ suc (count - (k + 1)) = omega arith in subst (λ n. Ahead p ds n (1 + 16 * k)) e a
 
   -- A turn that reads a declaration.
-  pub turn-read : (d : Variable) (es : List Variable) → Ok d ≡ first-declaration (length p) (drop (1 + 16 * k) p) → es ≡ ds ++ d ∷ [] → Ahead p es (count - (k + 1)) (1 + 16 * (k + 1))
-  turn-read d es e m =
+  pub turn_read : (d : Variable) (es : List Variable) → Ok d ≡ first_declaration (length p) (drop (1 + 16 * k) p) → es ≡ ds ++ d ∷ [] → Ahead p es (count - (k + 1)) (1 + 16 * (k + 1))
+  turn_read d es e m =
       let i : 1 + 16 * k + 16 ≡ 1 + 16 * (k + 1) = omega arith in
       let n = count - (k + 1) in
-      subst (λ l. Ahead p l n (1 + 16 * (k + 1))) (sym m) (subst (Ahead p (ds ++ d ∷ []) n) i (one-read p ds n (1 + 16 * k) one-next d e))
+      subst (λ l. Ahead p l n (1 + 16 * (k + 1))) (sym m) (subst (Ahead p (ds ++ d ∷ []) n) i (one_read p ds n (1 + 16 * k) one_next d e))
 
   -- A turn that refuses one.
-  pub turn-refused : (f : LoadFault) → Err f ≡ first-declaration (length p) (drop (1 + 16 * k) p) → Err f ≡ declarations-in p
-  turn-refused = one-refused p ds (count - (k + 1)) (1 + 16 * k) one-next
+  pub turn_refused : (f : LoadFault) → Err f ≡ first_declaration (length p) (drop (1 + 16 * k) p) → Err f ≡ declarations_in p
+  turn_refused = one_refused p ds (count - (k + 1)) (1 + 16 * k) one_next
 
 -- A row that ends in a result has a result of its first part.
 row_first : {A B : Type 0} (r : Result A LoadFault) (k : A → Result B LoadFault) (y : B) → (r >>= k) ≡ Ok y → (a : A) × (k a ≡ Ok y) × (r ≡ Ok a)
@@ -108,27 +108,27 @@ row_first (Ok a) k y h = (a, h, refl)
 row_first (Err f) k y h = let z : ◌≡◌ {A = ℕ} 0 1 = cc in absurd (omega arith)
 
 -- Equal results hold the same.
-same-several : (q r : Several) → ◌≡◌ {A = Result Several LoadFault} (Ok q) (Ok r) → q ≡ r
-same-several q r h = cc
+same_several : (q r : Several) → ◌≡◌ {A = Result Several LoadFault} (Ok q) (Ok r) → q ≡ r
+same_several q r h = cc
 
 -- Where n declarations are read, there are n of them, and what follows them are the bytes from 16 n on.
-pub declarations-counted : (n e : ℕ) (bs : List ℕ) (r : List Variable × List ℕ) → read-declarations n e bs ≡ Ok r → (length r.0 ≡ n) × (r.1 ≡ drop (16 * n) bs)
-declarations-counted zero e bs r h =
-    let k = same-several ([], bs) r h in
+pub declarations_counted : (n e : ℕ) (bs : List ℕ) (r : List Variable × List ℕ) → read_declarations n e bs ≡ Ok r → (length r.0 ≡ n) × (r.1 ≡ drop (16 * n) bs)
+declarations_counted zero e bs r h =
+    let k = same_several ([], bs) r h in
     (sym (ap (λ (q : Several). length q.0) k), sym (ap (λ (q : Several). q.1) k))
-declarations-counted (suc n) e bs r h =
-    let z = row_first (first-declaration e bs) _ r (sym (first_alone n e bs) ∙ h) in
-    let y = row_first (read-declarations n e (drop 16 bs)) (with_first z.0) r z.1 in
-    let k = same-several _ r y.1 in
-    let t = declarations-counted n e (drop 16 bs) y.0 y.2 in
+declarations_counted (suc n) e bs r h =
+    let z = row_first (first_declaration e bs) _ r (sym (first_alone n e bs) ∙ h) in
+    let y = row_first (read_declarations n e (drop 16 bs)) (with_first z.0) r z.1 in
+    let k = same_several _ r y.1 in
+    let t = declarations_counted n e (drop 16 bs) y.0 y.2 in
     let m : 16 + 16 * n ≡ 16 * suc n = omega arith in
     (sym (ap (λ (q : Several). length q.0) k) ∙ ap suc t.0, sym (ap (λ (q : Several). q.1) k) ∙ t.1 ∙ drop-drop (16 * n) 16 bs ∙ ap (λ i. drop i bs) m)
 
 -- Where n declarations are read, they are within the bytes.
-pub declarations-within : (n e : ℕ) (bs : List ℕ) (r : List Variable × List ℕ) → read-declarations n e bs ≡ Ok r → 16 * n ≤ length bs
-declarations-within zero e bs r h = omega arith
-declarations-within (suc n) e bs r h =
-    let z = row_first (first-declaration e bs) _ r (sym (first_alone n e bs) ∙ h) in
-    let y = row_first (read-declarations n e (drop 16 bs)) (with_first z.0) r z.1 in
+pub declarations_within : (n e : ℕ) (bs : List ℕ) (r : List Variable × List ℕ) → read_declarations n e bs ≡ Ok r → 16 * n ≤ length bs
+declarations_within zero e bs r h = omega arith
+declarations_within (suc n) e bs r h =
+    let z = row_first (first_declaration e bs) _ r (sym (first_alone n e bs) ∙ h) in
+    let y = row_first (read_declarations n e (drop 16 bs)) (with_first z.0) r z.1 in
     let l = leb-true 16 (length bs) (held_test _ _ _ z.0 z.2) in
-    omega (arith, declarations-within n e (drop 16 bs) y.0 y.2, length-drop 16 bs)
+    omega (arith, declarations_within n e (drop 16 bs) y.0 y.2, length-drop 16 bs)

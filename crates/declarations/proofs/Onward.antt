@@ -1,24 +1,24 @@
 -- What the declarations of a program say of loading it.
 use Rattle.std.proofs.Common.{◌≡◌, ℕ, suc, ◌+◌, ◌*◌, ◌≤◌, Bool, true, false, ◌&&◌, leb, List, [], ◌∷◌, length, drop, Ok, Err, Result, sym, refl, ap, ◌∙◌, arith}
 use Rattle.std.proofs.lemmas.Bool.{leb-true, and_parts}
-use Rattle.evaluator.specs.Evaluating.{most-variables}
+use Rattle.evaluator.specs.Evaluating.{most_variables}
 use Rattle.rules.specs.Outcomes.{◌>>=◌, ensure}
-use Rattle.rules.specs.Lengths.{block-length, longest-tick}
-use Rattle.rules.specs.Reading.{most_bytes, most-nested, read-declarations, read-block, start, owners-live, loops-pause, read_all, read}
+use Rattle.rules.specs.Lengths.{block_length, longest_tick}
+use Rattle.rules.specs.Reading.{most_bytes, most_nested, read_declarations, read_block, start, owners_live, loops_pause, read_all, read}
 use Rattle.rules.specs.Text.{Program, arms}
 use Rattle.rules.specs.Variables.{Variable}
 use Rattle.rules.specs.declared.faults.LoadFault.{LoadFault}
 use Rattle.rules.specs.declared.faults.LoadFault.TheVariants.{BadLength, TooManyVariables, TickTooLong}
-use Rattle.declarations.specs.Listing.{declarations-first, declarations-in, read-main}
-use Rattle.declarations.proofs.InOrder.{Several, declarations-counted, declarations-within}
+use Rattle.declarations.specs.Listing.{declarations_first, declarations_in, read_main}
+use Rattle.declarations.proofs.InOrder.{Several, declarations_counted, declarations_within}
 
 -- A refusal is no result.
 no_result : {A : Type 0} {P : Type 0} {f : LoadFault} {a : A} → ◌≡◌ {A = Result A LoadFault} (Err f) (Ok a) → P
 no_result {f = f} {a = a} h = let z : ◌≡◌ {A = ℕ} 0 1 = cc in absurd (omega arith)
 
 -- Equal results hold the same list.
-same-list : (ds es : List Variable) → ◌≡◌ {A = Result (List Variable) LoadFault} (Ok ds) (Ok es) → ds ≡ es
-same-list ds es h = cc
+same_list : (ds es : List Variable) → ◌≡◌ {A = Result (List Variable) LoadFault} (Ok ds) (Ok es) → ds ≡ es
+same_list ds es h = cc
 
 -- The declarations alone, of what is read.
 abbrev alone : Several → Result (List Variable) LoadFault
@@ -26,23 +26,23 @@ alone q = Ok q.0
 
 module _ {B : Type 0} (go : Several → Result B LoadFault) (f : LoadFault) where
   -- Where declarations are refused, what follows them is too.
-  refused-row : (r : Result Several LoadFault) → (r >>= alone) ≡ Err f → (r >>= go) ≡ Err f
-  refused-row (Ok q) h = no_result (sym h)
-  refused-row (Err g) h = cc
+  refused_row : (r : Result Several LoadFault) → (r >>= alone) ≡ Err f → (r >>= go) ≡ Err f
+  refused_row (Ok q) h = no_result (sym h)
+  refused_row (Err g) h = cc
 
 -- The same behind a test.
-refused-test : {A B : Type 0} (b : Bool) (g f : LoadFault) (r : Result A LoadFault) (s : Result B LoadFault) → (r ≡ Err f → s ≡ Err f) → (ensure b g >>= λ _. r) ≡ Err f → (ensure b g >>= λ _. s) ≡ Err f
-refused-test true g f r s k h = k h
-refused-test false g f r s k h = cc
+refused_test : {A B : Type 0} (b : Bool) (g f : LoadFault) (r : Result A LoadFault) (s : Result B LoadFault) → (r ≡ Err f → s ≡ Err f) → (ensure b g >>= λ _. r) ≡ Err f → (ensure b g >>= λ _. s) ≡ Err f
+refused_test true g f r s k h = k h
+refused_test false g f r s k h = cc
 
 -- A refusal behind the test of the length is the refusal of loading.
-all-refused : (e : ℕ) (p : List ℕ) (f : LoadFault) → declarations-first e p ≡ Err f → read_all e p ≡ Err f
-all-refused e [] f h = cc
-all-refused e (n ∷ bs) f h = refused-test (leb n most-variables) TooManyVariables f (read-declarations n e bs >>= alone) _ (refused-row _ f (read-declarations n e bs)) h
+all_refused : (e : ℕ) (p : List ℕ) (f : LoadFault) → declarations_first e p ≡ Err f → read_all e p ≡ Err f
+all_refused e [] f h = cc
+all_refused e (n ∷ bs) f h = refused_test (leb n most_variables) TooManyVariables f (read_declarations n e bs >>= alone) _ (refused_row _ f (read_declarations n e bs)) h
 
 -- Where the declarations of a program are refused, loading refuses it with the same fault.
-pub read-refused : (p : List ℕ) (f : LoadFault) → declarations-in p ≡ Err f → read p ≡ Err f
-read-refused p f h = refused-test (leb 1 (length p) && leb (length p) most_bytes) BadLength f (declarations-first (length p) p) (read_all (length p) p) (all-refused (length p) p f) h
+pub read_refused : (p : List ℕ) (f : LoadFault) → declarations_in p ≡ Err f → read p ≡ Err f
+read_refused p f h = refused_test (leb 1 (length p) && leb (length p) most_bytes) BadLength f (declarations_first (length p) p) (read_all (length p) p) (all_refused (length p) p f) h
 
 -- A test that holds before a result, and the result behind it.
 tested : {A : Type 0} (b : Bool) (g : LoadFault) (r : Result A LoadFault) (a : A) → (ensure b g >>= λ _. r) ≡ Ok a → (b ≡ true) × (r ≡ Ok a)
@@ -50,51 +50,51 @@ tested true g r a h = (refl, h)
 tested false g r a h = no_result h
 
 -- Where the declarations alone are a result, they were read.
-alone-read : (r : Result Several LoadFault) (ds : List Variable) → (r >>= alone) ≡ Ok ds → (q : Several) × (r ≡ Ok q) × (q.0 ≡ ds)
-alone-read (Ok q) ds h = (q, refl, same-list q.0 ds h)
-alone-read (Err g) ds h = no_result h
+alone_read : (r : Result Several LoadFault) (ds : List Variable) → (r >>= alone) ≡ Ok ds → (q : Several) × (r ≡ Ok q) × (q.0 ≡ ds)
+alone_read (Ok q) ds h = (q, refl, same_list q.0 ds h)
+alone_read (Err g) ds h = no_result h
 
 -- A program whose declarations are read: its length, how many it declares, and what loading it goes on with.
 pub record Declares (p : List ℕ) (ds : List Variable) : Type 0 where
   pub short : length p ≤ 4096
   pub few : length ds ≤ 32
   pub within : 1 + 16 * length ds ≤ length p
-  pub onward : read p ≡ read-main (length p) ds (drop (1 + 16 * length ds) p)
+  pub onward : read p ≡ read_main (length p) ds (drop (1 + 16 * length ds) p)
 
 -- What loading goes on with, by the count of declarations and what is read of them.
 abbrev going_on : (e n : ℕ) → Several → Result Program LoadFault
 going_on e n q = do
-  B ← read-block q.0 most-nested 0 start e q.1
-  _ ← owners-live (1 + arms B) 1 q.0
-  _ ← loops-pause (1 + 16 * n) 0 0 1 B
-  _ ← ensure (leb (block-length B + 1) longest-tick) TickTooLong
+  B ← read_block q.0 most_nested 0 start e q.1
+  _ ← owners_live (1 + arms B) 1 q.0
+  _ ← loops_pause (1 + 16 * n) 0 0 1 B
+  _ ← ensure (leb (block_length B + 1) longest_tick) TickTooLong
   Ok (record { variables = q.0; main = B })
 
 module _ (e n : ℕ) (bs : List ℕ) (ds : List Variable) where
   -- The bytes behind the count, where the declarations in them are read.
-  behind-count : (q : Several) → leb n most-variables ≡ true → read-declarations n e bs ≡ Ok q → q.0 ≡ ds → q.1 ≡ drop (16 * n) bs → n ≡ length ds → read_all e (n ∷ bs) ≡ read-main e ds (drop (16 * n) bs)
-  behind-count q b r d z c =
-      ap (λ x. ensure x TooManyVariables >>= λ _. read-declarations n e bs >>= going_on e n) b
+  behind_count : (q : Several) → leb n most_variables ≡ true → read_declarations n e bs ≡ Ok q → q.0 ≡ ds → q.1 ≡ drop (16 * n) bs → n ≡ length ds → read_all e (n ∷ bs) ≡ read_main e ds (drop (16 * n) bs)
+  behind_count q b r d z c =
+      ap (λ x. ensure x TooManyVariables >>= λ _. read_declarations n e bs >>= going_on e n) b
       ∙ ap (λ x. x >>= going_on e n) r
       ∙ (λ i. going_on e (c i) (d i, z i))
 
   -- The same from the declarations.
-  count-first : declarations-first e (n ∷ bs) ≡ Ok ds → (length ds ≡ n) × (n ≤ 32) × (16 * n ≤ length bs) × (read_all e (n ∷ bs) ≡ read-main e ds (drop (16 * n) bs))
-  count-first h =
-      let t = tested (leb n most-variables) TooManyVariables (read-declarations n e bs >>= alone) ds h in
-      let y = alone-read (read-declarations n e bs) ds t.1 in
-      let k = declarations-counted n e bs y.0 y.1 in
+  count_first : declarations_first e (n ∷ bs) ≡ Ok ds → (length ds ≡ n) × (n ≤ 32) × (16 * n ≤ length bs) × (read_all e (n ∷ bs) ≡ read_main e ds (drop (16 * n) bs))
+  count_first h =
+      let t = tested (leb n most_variables) TooManyVariables (read_declarations n e bs >>= alone) ds h in
+      let y = alone_read (read_declarations n e bs) ds t.1 in
+      let k = declarations_counted n e bs y.0 y.1 in
       let c : length ds ≡ n = ap length (sym y.2) ∙ k.0 in
-      (c, leb-true n 32 t.0, declarations-within n e bs y.0 y.1, behind-count y.0 t.0 y.1 y.2 k.1 (sym c))
+      (c, leb-true n 32 t.0, declarations_within n e bs y.0 y.1, behind_count y.0 t.0 y.1 y.2 k.1 (sym c))
 
 -- Where the declarations of a program are read, loading goes on behind them.
-pub read-onward : (p : List ℕ) (ds : List Variable) → declarations-in p ≡ Ok ds → Declares p ds
-read-onward [] ds h = no_result h
-read-onward (n ∷ bs) ds h =
+pub read_onward : (p : List ℕ) (ds : List Variable) → declarations_in p ≡ Ok ds → Declares p ds
+read_onward [] ds h = no_result h
+read_onward (n ∷ bs) ds h =
     let e = suc (length bs) in
-    let t = tested (leb 1 e && leb e most_bytes) BadLength (declarations-first e (n ∷ bs)) ds h in
+    let t = tested (leb 1 e && leb e most_bytes) BadLength (declarations_first e (n ∷ bs)) ds h in
     let m = leb-true e 4096 (and_parts (leb 1 e) (leb e most_bytes) t.0).1 in
-    let k = count-first e n bs ds t.1 in
+    let k = count_first e n bs ds t.1 in
     let o : 1 + 16 * length ds ≡ suc (16 * n) = omega (arith, k.0) in
     record {
       short = m;
@@ -103,5 +103,5 @@ read-onward (n ∷ bs) ds h =
       onward =
           ap (λ x. ensure x BadLength >>= λ _. read_all e (n ∷ bs)) t.0
           ∙ k.3
-          ∙ ap (λ i. read-main e ds (drop i (n ∷ bs))) (sym o);
+          ∙ ap (λ i. read_main e ds (drop i (n ∷ bs))) (sym o);
     }

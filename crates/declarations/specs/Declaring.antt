@@ -11,13 +11,13 @@ abbrev pub ordered : (low initial high : ℤ) → Bool
 ordered l i h = int_le l i && int_le i h
 
 -- The variable that a declaration declares.
-abbrev pub variable-of : Declaration → Variable
-variable-of d = record { kind = d.kind; policy = d.policy; operator = d.operator; owner = d.owner; initial = d.initial; low = d.low; high = d.high }
+abbrev pub variable_of : Declaration → Variable
+variable_of d = record { kind = d.kind; policy = d.policy; operator = d.operator; owner = d.owner; initial = d.initial; low = d.low; high = d.high }
 
 -- The variables that declarations declare, in order.
-abbrev pub variables-of : List Declaration → List Variable
-variables-of ds = map variable-of ds
+abbrev pub variables_of : List Declaration → List Variable
+variables_of ds = map variable_of ds
 
 -- An input that reads nothing but 0.
-abbrev pub idle-input : Variable
-idle-input = record { kind = Input; policy = All; operator = Sum; owner = 0; initial = pos 0; low = pos 0; high = pos 0 }
+abbrev pub idle_input : Variable
+idle_input = record { kind = Input; policy = All; operator = Sum; owner = 0; initial = pos 0; low = pos 0; high = pos 0 }

@@ -1,9 +1,9 @@
 //! Reads all declarations of a program, and tests the owners that they name.
 ghost use Rattle.std.specs.Prelude.{◌≡◌, ◌≤◌, length, drop};
 ghost use Rattle.evaluator.specs.Outcomes.{mapped};
-ghost use Rattle.rules.specs.Reading.{owners-live};
-ghost use Rattle.declarations.specs.Declaring.{variable-of};
-ghost use Rattle.declarations.specs.Listing.{listed, first-declaration, declarations-in};
+ghost use Rattle.rules.specs.Reading.{owners_live};
+ghost use Rattle.declarations.specs.Declaring.{variable_of};
+ghost use Rattle.declarations.specs.Listing.{listed, first_declaration, declarations_in};
 
 use crate::declaration::Declaration;
 use crate::list::Declarations;
@@ -19,7 +19,7 @@ pub const MOST_VARIABLES: u8 = 32;
 // The declaration at a place of the program.
 fn declaration_at(program: &[u8], place: usize) -> Result<Declaration, LoadFault>
     requires { place ≤ length program.now }
-    ensures { mapped variable-of result ≡ first-declaration (length program.now) (drop place program.now) }
+    ensures { mapped variable_of result ≡ first_declaration (length program.now) (drop place program.now) }
 {
     if program.len() - place < DECLARATION_BYTES {
         return Err(LoadFault::CutDeclaration(ReadingFault::Cut(place)));
@@ -29,7 +29,7 @@ fn declaration_at(program: &[u8], place: usize) -> Result<Declaration, LoadFault
 
 /// The declarations of a program, or why its length, their count or one of them is refused.
 pub fn read_declarations(program: &[u8]) -> Result<Declarations, LoadFault>
-    ensures { mapped listed result ≡ declarations-in program.now }
+    ensures { mapped listed result ≡ declarations_in program.now }
 {
     if program.len() < 1 || program.len() > MOST_BYTES {
         return Err(LoadFault::BadLength);
@@ -48,7 +48,7 @@ pub fn read_declarations(program: &[u8]) -> Result<Declarations, LoadFault>
 
 /// The first declaration whose owner is none of the threads is bad.
 pub fn owners_live(declarations: &Declarations, threads: usize) -> Result<(), LoadFault>
-    ensures { result ≡ owners-live threads 1 (listed declarations.now) }
+    ensures { result ≡ owners_live threads 1 (listed declarations.now) }
 {
     let list = declarations.as_slice();
     for i in 0..list.len() {

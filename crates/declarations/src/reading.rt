@@ -1,12 +1,12 @@
 //! Reads declarations from the bytes of a program.
 ghost use Rattle.std.specs.Prelude.{◌≡◌, ◌≤◌, length};
-ghost use Rattle.arithmetic.specs.Operators.{combining-number};
+ghost use Rattle.arithmetic.specs.Operators.{combining_number};
 ghost use Rattle.evaluator.specs.Outcomes.{mapped};
-ghost use Rattle.rules.specs.Encoding.{kind-number, policy-number};
+ghost use Rattle.rules.specs.Encoding.{kind_number, policy_number};
 ghost use Rattle.rules.specs.Outcomes.{numbered};
-ghost use Rattle.rules.specs.Reading.{kinds, policies, combinings, zeros-right, number_at, read-declaration};
+ghost use Rattle.rules.specs.Reading.{kinds, policies, combinings, zeros_right, number_at, read_declaration};
 ghost use Rattle.rules.specs.declared.faults.LoadFault.TheVariants.{BadDeclaration};
-ghost use Rattle.declarations.specs.Declaring.{variable-of};
+ghost use Rattle.declarations.specs.Declaring.{variable_of};
 
 use crate::declaration::Declaration;
 use arithmetic::operators::Combining;
@@ -18,7 +18,7 @@ pub const DECLARATION_BYTES: usize = 16;
 
 /// The kind of variable that a number stands for.
 pub fn kind_of(number: u8) -> Option<Kind>
-    ensures { result ≡ numbered kind-number kinds number }
+    ensures { result ≡ numbered kind_number kinds number }
 {
     match number {
         0 => Some(Kind::Input),
@@ -31,7 +31,7 @@ pub fn kind_of(number: u8) -> Option<Kind>
 
 /// The policy that a number stands for.
 pub fn policy_of(number: u8) -> Option<Policy>
-    ensures { result ≡ numbered policy-number policies number }
+    ensures { result ≡ numbered policy_number policies number }
 {
     match number {
         0 => Some(Policy::All),
@@ -43,7 +43,7 @@ pub fn policy_of(number: u8) -> Option<Policy>
 
 /// The operator of joins that a number stands for.
 pub fn combining_of(number: u8) -> Option<Combining>
-    ensures { result ≡ numbered combining-number combinings number }
+    ensures { result ≡ numbered combining_number combinings number }
 {
     match number {
         0 => Some(Combining::Sum),
@@ -56,7 +56,7 @@ pub fn combining_of(number: u8) -> Option<Combining>
 
 /// Whether policy, operator and owner are 0 where the kind has none.
 pub fn zeros_right(kind: Kind, policy: u8, operator: u8, owner: u8) -> bool
-    ensures { result ≡ zeros-right kind policy operator owner }
+    ensures { result ≡ zeros_right kind policy operator owner }
 {
     match kind {
         Kind::Input => policy == 0 && operator == 0 && owner == 0,
@@ -76,7 +76,7 @@ fn number_at(bytes: &[u8], i: usize) -> i32
 /// The declaration in 16 bytes at a place of the program.
 pub(crate) fn declaration_in(bytes: &[u8], place: usize) -> Result<Declaration, LoadFault>
     requires { length bytes.now ≡ 16 }
-    ensures { mapped variable-of result ≡ read-declaration (BadDeclaration place) bytes.now }
+    ensures { mapped variable_of result ≡ read_declaration (BadDeclaration place) bytes.now }
 {
     let bad = LoadFault::BadDeclaration(place);
     let Some(kind) = kind_of(bytes[0]) else {

@@ -1,14 +1,14 @@
 //! Which variables a thread reads, and which it sets.
 ghost use Rattle.std.specs.Prelude.{◌≡◌};
-ghost use Rattle.declarations.specs.Declaring.{variable-of, variables-of};
-ghost use Rattle.rules.specs.Scopes.{reads-kind, sets-kind, readable, settable};
+ghost use Rattle.declarations.specs.Declaring.{variable_of, variables_of};
+ghost use Rattle.rules.specs.Scopes.{reads_kind, sets_kind, readable, settable};
 
 use crate::declaration::Declaration;
 use rules::program::Kind;
 
 // Whether a thread reads the variable that is declared so.
 fn reads(declaration: Declaration, thread: usize) -> bool
-    ensures { result ≡ reads-kind (variable-of declaration).kind (variable-of declaration).owner thread }
+    ensures { result ≡ reads_kind (variable_of declaration).kind (variable_of declaration).owner thread }
 {
     match declaration.kind() {
         Kind::Private => declaration.owner() as usize == thread,
@@ -18,7 +18,7 @@ fn reads(declaration: Declaration, thread: usize) -> bool
 
 // Whether a thread sets the variable that is declared so.
 fn sets(declaration: Declaration, thread: usize) -> bool
-    ensures { result ≡ sets-kind (variable-of declaration).kind (variable-of declaration).owner thread }
+    ensures { result ≡ sets_kind (variable_of declaration).kind (variable_of declaration).owner thread }
 {
     match declaration.kind() {
         Kind::Input => false,
@@ -29,7 +29,7 @@ fn sets(declaration: Declaration, thread: usize) -> bool
 
 /// Whether a thread may read the variable of this number.
 pub fn may_read(declarations: &[Declaration], thread: usize, number: u8) -> bool
-    ensures { result ≡ readable (variables-of declarations.now) thread number }
+    ensures { result ≡ readable (variables_of declarations.now) thread number }
 {
     let i = number as usize;
     if i >= declarations.len() {
@@ -40,7 +40,7 @@ pub fn may_read(declarations: &[Declaration], thread: usize, number: u8) -> bool
 
 /// Whether a thread may set the variable of this number.
 pub fn may_set(declarations: &[Declaration], thread: usize, number: u8) -> bool
-    ensures { result ≡ settable (variables-of declarations.now) thread number }
+    ensures { result ≡ settable (variables_of declarations.now) thread number }
 {
     let i = number as usize;
     if i >= declarations.len() {

@@ -1,7 +1,7 @@
 -- The evaluator's loop: after each turn, what is left to do gives what the whole gives.
 use Rattle.std.proofs.Common.{◌≡◌, ℕ, zero, suc, ◌+◌, ◌-◌, ◌<◌, ◌≤◌, List, [], ◌∷◌, length, Some, None, Ok, Err, Option, Result, sym, refl, ap, ◌∙◌, subst, arith}
 use Rattle.arithmetic.specs.Meaning.{Meaning}
-use Rattle.evaluator.specs.Commands.{Command, next-command, listed, listing, commands-of, Placed}
+use Rattle.evaluator.specs.Commands.{Command, next_command, listed, listing, commands_of, Placed}
 use Rattle.evaluator.specs.Evaluating.{performed, step, run, taken}
 use Rattle.evaluator.specs.Outcomes.{and_then, mapped}
 use Rattle.bounds.specs.declared.refusal.Refusal.{Refusal}
@@ -13,32 +13,32 @@ module _ {V : Type 0} (M : Meaning V) (look : ℕ → Option V) where
     pub fuel : ℕ
     pub enough : length rest ≤ fuel
     pub within : length rest ≤ length code
-    pub same : run M look (commands-of code) [] ≡ run M look (listing fuel (length code) rest) st
+    pub same : run M look (commands_of code) [] ≡ run M look (listing fuel (length code) rest) st
 
-  pub first-turn : (code : List ℕ) → Turn code code []
-  first-turn code = record { fuel = length code; enough = omega arith; within = omega arith; same = refl }
+  pub first_turn : (code : List ℕ) → Turn code code []
+  first_turn code = record { fuel = length code; enough = omega arith; within = omega arith; same = refl }
 
   -- Taking the first command and running the others is running all.
-  run-taken : (more : List ℕ → List Placed) (p : ℕ) (o : Option (Command × List ℕ)) (st : List V) →
+  run_taken : (more : List ℕ → List Placed) (p : ℕ) (o : Option (Command × List ℕ)) (st : List V) →
       run M look (listed more p o) st ≡ and_then (taken M look p o st) (λ q. run M look (more q.1) q.0)
-  run-taken more p None st = refl
-  run-taken more p (Some c) st = go (performed M look p c.0 st) where
+  run_taken more p None st = refl
+  run_taken more p (Some c) st = go (performed M look p c.0 st) where
     go : (r : Result (List V) Refusal) → and_then r (run M look (more c.1)) ≡ and_then (mapped (λ st'. (st', c.1)) r) (λ (q : List V × List ℕ). run M look (more q.1) q.0)
     go (Ok st') = refl
     go (Err e) = refl
 
   -- The commands left, of which there is at least one.
-  left-first : (fuel e : ℕ) (rest : List ℕ) (st : List V) → 0 < length rest → length rest ≤ fuel →
-      (n : ℕ) × (length rest ≤ suc n) × (run M look (listing fuel e rest) st ≡ and_then (taken M look (e - length rest) (next-command rest) st) (λ q. run M look (listing n e q.1) q.0))
-  left-first zero e rest st h k = absurd (omega arith)
-  left-first (suc n) e [] st h k = absurd (omega arith)
-  left-first (suc n) e (b ∷ bs) st h k = (n, k, run-taken (listing n e) (e - length (b ∷ bs)) (next-command (b ∷ bs)) st)
+  left_first : (fuel e : ℕ) (rest : List ℕ) (st : List V) → 0 < length rest → length rest ≤ fuel →
+      (n : ℕ) × (length rest ≤ suc n) × (run M look (listing fuel e rest) st ≡ and_then (taken M look (e - length rest) (next_command rest) st) (λ q. run M look (listing n e q.1) q.0))
+  left_first zero e rest st h k = absurd (omega arith)
+  left_first (suc n) e [] st h k = absurd (omega arith)
+  left_first (suc n) e (b ∷ bs) st h k = (n, k, run_taken (listing n e) (e - length (b ∷ bs)) (next_command (b ∷ bs)) st)
 
   -- One turn more.
-  pub next-turn : (code rest rest' : List ℕ) (st st' : List V) → Turn code rest st → 0 < length rest → length rest' < length rest →
-      Ok (st', rest') ≡ taken M look (length code - length rest) (next-command rest) st → Turn code rest' st'
-  next-turn code rest rest' st st' t some shorter e =
-      let f = left-first t.fuel (length code) rest st some t.enough in
+  pub next_turn : (code rest rest' : List ℕ) (st st' : List V) → Turn code rest st → 0 < length rest → length rest' < length rest →
+      Ok (st', rest') ≡ taken M look (length code - length rest) (next_command rest) st → Turn code rest' st'
+  next_turn code rest rest' st st' t some shorter e =
+      let f = left_first t.fuel (length code) rest st some t.enough in
       let long = f.1 in let w = t.within in
       record {
         fuel = f.0;
@@ -48,14 +48,14 @@ module _ {V : Type 0} (M : Meaning V) (look : ℕ → Option V) where
       }
 
   -- A turn that is refused refuses the whole.
-  pub refused-turn : (code rest : List ℕ) (st : List V) (r : Refusal) → Turn code rest st → 0 < length rest →
-      Err r ≡ taken M look (length code - length rest) (next-command rest) st → run M look (commands-of code) [] ≡ Err r
-  refused-turn code rest st r t some e =
-      let f = left-first t.fuel (length code) rest st some t.enough in
+  pub refused_turn : (code rest : List ℕ) (st : List V) (r : Refusal) → Turn code rest st → 0 < length rest →
+      Err r ≡ taken M look (length code - length rest) (next_command rest) st → run M look (commands_of code) [] ≡ Err r
+  refused_turn code rest st r t some e =
+      let f = left_first t.fuel (length code) rest st some t.enough in
       t.same ∙ f.2 ∙ ap (λ q. and_then q (λ (q : List V × List ℕ). run M look (listing f.0 (length code) q.1) q.0)) (sym e)
 
   -- With nothing left, what is stacked is what all commands give.
-  pub last_turn : (code rest : List ℕ) (st : List V) → Turn code rest st → length rest ≡ 0 → run M look (commands-of code) [] ≡ Ok st
+  pub last_turn : (code rest : List ℕ) (st : List V) → Turn code rest st → length rest ≡ 0 → run M look (commands_of code) [] ≡ Ok st
   last_turn code [] st t e = t.same ∙ done t.fuel where
     done : (n : ℕ) → run M look (listing n (length code) []) st ≡ Ok st
     done zero = refl

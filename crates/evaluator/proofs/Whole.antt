@@ -3,18 +3,18 @@ use Rattle.std.proofs.Common.{◌≡◌, ℕ, ◌+◌, ◌<◌, ◌≤◌, true,
 use Rattle.std.proofs.lemmas.List.{length-take-le}
 use Rattle.std.proofs.lemmas.Bool.{le-leb, eq-eqb, and_from}
 use Rattle.arithmetic.specs.Meaning.{Meaning}
-use Rattle.evaluator.specs.Commands.{commands-of}
-use Rattle.evaluator.specs.Evaluating.{evaluated, evaluated-in, run, only, value-at}
+use Rattle.evaluator.specs.Commands.{commands_of}
+use Rattle.evaluator.specs.Evaluating.{evaluated, evaluated_in, run, only, value_at}
 use Rattle.evaluator.specs.Outcomes.{and_then}
-use Rattle.stack.specs.Stacks.{before-base}
+use Rattle.stack.specs.Stacks.{before_base}
 use Rattle.bounds.specs.declared.refusal.Refusal.{Refusal}
 use Rattle.bounds.specs.declared.refusal.Refusal.TheVariants.{BadExpression, Memory}
 use Rattle.stack.specs.declared.Stack.{Stack}
 
 module _ {V : Type 0} where
   -- Where the places before the base are those of the memory, the variable places are as they were.
-  pub variables-kept : (m x : List V) (s : Stack V) → length m ≡ 1040 → before-base s ≡ take 1024 m → x ≡ s.places.now → take 1024 x ≡ take 1024 m
-  variables-kept m x s long b e =
+  pub variables_kept : (m x : List V) (s : Stack V) → length m ≡ 1040 → before_base s ≡ take 1024 m → x ≡ s.places.now → take 1024 x ≡ take 1024 m
+  variables_kept m x s long b e =
       let f = s.fits in
       let base = length-take-le s.base s.places.now (omega arith) in
       let count = length-take-le 1024 m (omega arith) in
@@ -24,12 +24,12 @@ module _ {V : Type 0} where
 
   module _ (M : Meaning V) (places : ℕ → Option ℕ) where
     -- The value that the commands leave, over a memory and bytes of the right lengths.
-    pub answer-is : (m b : List V) (bs : List ℕ) (ran : Result (List V) Refusal) → length m ≡ 1040 → 0 < length bs → length bs ≤ 64 →
-        b ≡ take 1024 m → ran ≡ run M (λ v. value-at b (places v)) (commands-of bs) [] →
-        and_then ran only ≡ evaluated-in M places m bs
-    answer-is m b bs ran long some few e h =
-        let run_at : List V → Result V Refusal = λ l. and_then (run M (λ v. value-at l (places v)) (commands-of bs) []) only in
+    pub answer_is : (m b : List V) (bs : List ℕ) (ran : Result (List V) Refusal) → length m ≡ 1040 → 0 < length bs → length bs ≤ 64 →
+        b ≡ take 1024 m → ran ≡ run M (λ v. value_at b (places v)) (commands_of bs) [] →
+        and_then ran only ≡ evaluated_in M places m bs
+    answer_is m b bs ran long some few e h =
+        let run_at : List V → Result V Refusal = λ l. and_then (run M (λ v. value_at l (places v)) (commands_of bs) []) only in
         ap (λ q. and_then q only) h
         ∙ ap run_at e
         ∙ sym (ap (λ t. cond t (run_at (take 1024 m)) (Err (BadExpression 0))) (and_from _ _ (le-leb 1 (length bs) some) (le-leb (length bs) 64 few)))
-        ∙ sym (ap (λ t. cond t (evaluated M (λ v. value-at (take 1024 m) (places v)) bs) (Err Memory)) (eq-eqb (length m) 1040 long))
+        ∙ sym (ap (λ t. cond t (evaluated M (λ v. value_at (take 1024 m) (places v)) bs) (Err Memory)) (eq-eqb (length m) 1040 long))

@@ -4,7 +4,7 @@ use Rattle.std.specs.Int.{w32}
 use Rattle.std.proofs.Common.{to_z, of_z}
 use Rattle.arithmetic.specs.declared.operators.Operator.{Operator}
 use Rattle.arithmetic.specs.declared.operators.Operator.TheVariants.{Add, Subtract, Multiply, Lesser, Greater, LessThan, Equal}
-use Rattle.arithmetic.specs.Operators.{operator-byte, not_byte}
+use Rattle.arithmetic.specs.Operators.{operator_byte, not_byte}
 
 -- A command stacks a constant or a variable's value, or replaces stacked values by what an operator gives of them.
 pub data Command : Type 0 where
@@ -14,11 +14,11 @@ pub data Command : Type 0 where
   inversion : Command
 
 -- A constant begins with the byte 0x40, a variable with 0x41, and an operator with its own.
-abbrev pub command-byte : Command → ℕ
-command-byte (constant n) = 0x40
-command-byte (variable v) = 0x41
-command-byte (operator o) = operator-byte o
-command-byte inversion = not_byte
+abbrev pub command_byte : Command → ℕ
+command_byte (constant n) = 0x40
+command_byte (variable v) = 0x41
+command_byte (operator o) = operator_byte o
+command_byte inversion = not_byte
 
 -- The four bytes of a number below 2^32, the low byte first.
 abbrev pub four_bytes : ℕ → List ℕ
@@ -38,7 +38,7 @@ operands inversion = []
 -- Commands are written one after the other, each as its byte and its operands.
 abbrev pub written : List Command → List ℕ
 written [] = []
-written (c ∷ cs) = command-byte c ∷ operands c ++ written cs
+written (c ∷ cs) = command_byte c ∷ operands c ++ written cs
 
 -- Commands that can be written: constants of 32 bits, variable numbers of one byte.
 abbrev pub Writable : Command → Type 0
@@ -48,9 +48,9 @@ Writable (operator o) = Unit {0}
 Writable inversion = Unit {0}
 
 -- The first operator of a list that has the byte b, if one has it.
-abbrev pub operator-among : List Operator → ℕ → Option Command
-operator-among [] b = None
-operator-among (o ∷ os) b = cond (b == operator-byte o) (Some (operator o)) (operator-among os b)
+abbrev pub operator_among : List Operator → ℕ → Option Command
+operator_among [] b = None
+operator_among (o ∷ os) b = cond (b == operator_byte o) (Some (operator o)) (operator_among os b)
 
 -- There are seven operators on two values.
 abbrev pub operators : List Operator
@@ -58,20 +58,20 @@ operators = Add ∷ Subtract ∷ Multiply ∷ Lesser ∷ Greater ∷ LessThan �
 
 -- A command of one byte is `not` or an operator on two values; any other byte is none.
 abbrev pub single : ℕ → Option Command
-single b = cond (b == not_byte) (Some inversion) (operator-among operators b)
+single b = cond (b == not_byte) (Some inversion) (operator_among operators b)
 
 -- A constant, where four bytes are left for it, and what follows it.
-abbrev pub constant-in : List ℕ → Option (Command × List ℕ)
-constant-in [] = None
-constant-in (a ∷ []) = None
-constant-in (a ∷ b ∷ []) = None
-constant-in (a ∷ b ∷ c ∷ []) = None
-constant-in (a ∷ b ∷ c ∷ d ∷ bs) = Some (constant (signed_of a b c d), bs)
+abbrev pub constant_in : List ℕ → Option (Command × List ℕ)
+constant_in [] = None
+constant_in (a ∷ []) = None
+constant_in (a ∷ b ∷ []) = None
+constant_in (a ∷ b ∷ c ∷ []) = None
+constant_in (a ∷ b ∷ c ∷ d ∷ bs) = Some (constant (signed_of a b c d), bs)
 
 -- A variable, where a byte is left for its number, and what follows it.
-abbrev pub variable-in : List ℕ → Option (Command × List ℕ)
-variable-in [] = None
-variable-in (v ∷ bs) = Some (variable v, bs)
+abbrev pub variable_in : List ℕ → Option (Command × List ℕ)
+variable_in [] = None
+variable_in (v ∷ bs) = Some (variable v, bs)
 
 -- A command of one byte is followed by all bytes that are left.
 abbrev pub with_rest : Option Command → List ℕ → Option (Command × List ℕ)
@@ -79,9 +79,9 @@ with_rest None bs = None
 with_rest (Some c) bs = Some (c, bs)
 
 -- The first byte says which command it is; its operands and what follows it come after.
-abbrev pub next-command : List ℕ → Option (Command × List ℕ)
-next-command [] = None
-next-command (b ∷ bs) = cond (b == 0x40) (constant-in bs) (cond (b == 0x41) (variable-in bs) (with_rest (single b) bs))
+abbrev pub next_command : List ℕ → Option (Command × List ℕ)
+next_command [] = None
+next_command (b ∷ bs) = cond (b == 0x40) (constant_in bs) (cond (b == 0x41) (variable_in bs) (with_rest (single b) bs))
 
 -- A command with its place, counted from the expression's byte 0; none where no command can be read there.
 pub record Placed : Type 0 where
@@ -97,11 +97,11 @@ listed more p (Some c) = record { place = p; command = Some c.0 } ∷ more c.1
 abbrev pub listing : (fuel end : ℕ) → List ℕ → List Placed
 listing fuel end [] = []
 listing zero end (b ∷ bs) = []
-listing (suc n) end (b ∷ bs) = listed (listing n end) (end - length (b ∷ bs)) (next-command (b ∷ bs))
+listing (suc n) end (b ∷ bs) = listed (listing n end) (end - length (b ∷ bs)) (next_command (b ∷ bs))
 
 -- The commands of an expression with their places, up to the first that cannot be read.
-abbrev pub commands-of : List ℕ → List Placed
-commands-of bs = listing (length bs) (length bs) bs
+abbrev pub commands_of : List ℕ → List Placed
+commands_of bs = listing (length bs) (length bs) bs
 
 -- A command stands before others if it and they could be read.
 abbrev pub one_more : Option Command → Option (List Command) → Option (List Command)

@@ -2,7 +2,7 @@
 use Rattle.std.specs.Prelude.{ℕ, Bool, true, false, cond, ◌&&◌, List, [], ◌∷◌, length, take, Some, None, Ok, Err, Option, Result, ◌==◌, nat_le, nat_lt}
 use Rattle.std.specs.List.{slice_get}
 use Rattle.arithmetic.specs.Meaning.{Meaning, two, inverse}
-use Rattle.evaluator.specs.Commands.{Command, constant, variable, operator, inversion, Placed, commands-of}
+use Rattle.evaluator.specs.Commands.{Command, constant, variable, operator, inversion, Placed, commands_of}
 use Rattle.evaluator.specs.Outcomes.{and_then, mapped}
 use Rattle.bounds.specs.declared.refusal.Refusal.{Refusal}
 use Rattle.bounds.specs.declared.refusal.Refusal.TheVariants.{BadExpression, WrongVariable, Memory}
@@ -16,29 +16,29 @@ abbrev pub longest : ℕ
 longest = 64
 
 -- There are at most 32 variables.
-abbrev pub most-variables : ℕ
-most-variables = 32
+abbrev pub most_variables : ℕ
+most_variables = 32
 
 module _ {V : Type 0} where
   -- One value more, while fewer than 16 are stacked; the last stacked stands first.
-  abbrev pub stack-one : ℕ → V → List V → Result (List V) Refusal
-  stack-one p x st = cond (nat_lt (length st) deepest) (Ok (x ∷ st)) (Err (BadExpression p))
+  abbrev pub stack_one : ℕ → V → List V → Result (List V) Refusal
+  stack_one p x st = cond (nat_lt (length st) deepest) (Ok (x ∷ st)) (Err (BadExpression p))
 
   -- The value of a variable that can be read is stacked; else the variable is wrong, but want of room is found first.
-  abbrev pub stack-found : ℕ → Option V → List V → Result (List V) Refusal
-  stack-found p (Some x) st = stack-one p x st
-  stack-found p None st = cond (nat_lt (length st) deepest) (Err (WrongVariable p)) (Err (BadExpression p))
+  abbrev pub stack_found : ℕ → Option V → List V → Result (List V) Refusal
+  stack_found p (Some x) st = stack_one p x st
+  stack_found p None st = cond (nat_lt (length st) deepest) (Err (WrongVariable p)) (Err (BadExpression p))
 
   -- An operator replaces the last two values, of which the earlier stacked is its first; with fewer the expression is bad.
-  abbrev pub operate-two : ℕ → (V → V → V) → List V → Result (List V) Refusal
-  operate-two p f [] = Err (BadExpression p)
-  operate-two p f (y ∷ []) = Err (BadExpression p)
-  operate-two p f (y ∷ x ∷ st) = Ok (f x y ∷ st)
+  abbrev pub operate_two : ℕ → (V → V → V) → List V → Result (List V) Refusal
+  operate_two p f [] = Err (BadExpression p)
+  operate_two p f (y ∷ []) = Err (BadExpression p)
+  operate_two p f (y ∷ x ∷ st) = Ok (f x y ∷ st)
 
   -- An operator on one value replaces the last stacked; with none the expression is bad.
-  abbrev pub operate-one : ℕ → (V → V) → List V → Result (List V) Refusal
-  operate-one p f [] = Err (BadExpression p)
-  operate-one p f (x ∷ st) = Ok (f x ∷ st)
+  abbrev pub operate_one : ℕ → (V → V) → List V → Result (List V) Refusal
+  operate_one p f [] = Err (BadExpression p)
+  operate_one p f (x ∷ st) = Ok (f x ∷ st)
 
   -- Exactly one value remains; another remainder is a bad expression at place 0.
   abbrev pub only : List V → Result V Refusal
@@ -47,18 +47,18 @@ module _ {V : Type 0} where
   only (x ∷ y ∷ st) = Err (BadExpression 0)
 
   -- A variable has what its place holds; without a place, or past the last, it cannot be read.
-  abbrev pub value-at : List V → Option ℕ → Option V
-  value-at vs None = None
-  value-at vs (Some p) = slice_get vs p
+  abbrev pub value_at : List V → Option ℕ → Option V
+  value_at vs None = None
+  value_at vs (Some p) = slice_get vs p
 
 -- M says what values are; look gives the value of each variable that can be read.
 module _ {V : Type 0} (M : Meaning V) (look : ℕ → Option V) where
   -- The command at place p stacks a constant or a variable's value, or operates on stacked values.
   abbrev pub performed : ℕ → Command → List V → Result (List V) Refusal
-  performed p (constant n) st = stack-one p (M.constant n) st
-  performed p (variable v) st = stack-found p (look v) st
-  performed p (operator o) st = operate-two p (λ x y. M.operated (two o x y)) st
-  performed p inversion st = operate-one p (λ x. M.operated (inverse x)) st
+  performed p (constant n) st = stack_one p (M.constant n) st
+  performed p (variable v) st = stack_found p (look v) st
+  performed p (operator o) st = operate_two p (λ x y. M.operated (two o x y)) st
+  performed p inversion st = operate_one p (λ x. M.operated (inverse x)) st
 
   -- A command that could not be read is a bad expression at its place.
   abbrev pub step : ℕ → Option Command → List V → Result (List V) Refusal
@@ -72,7 +72,7 @@ module _ {V : Type 0} (M : Meaning V) (look : ℕ → Option V) where
 
   -- The value of an expression's bytes; a length outside 1 to 64 is a bad expression at place 0.
   abbrev pub evaluated : List ℕ → Result V Refusal
-  evaluated bs = cond (nat_le 1 (length bs) && nat_le (length bs) longest) (and_then (run (commands-of bs) []) only) (Err (BadExpression 0))
+  evaluated bs = cond (nat_le 1 (length bs) && nat_le (length bs) longest) (and_then (run (commands_of bs) []) only) (Err (BadExpression 0))
 
   -- The command that was read at place p, with the bytes after it: the values then stacked, and those bytes.
   abbrev pub taken : ℕ → Option (Command × List ℕ) → List V → Result (List V × List ℕ) Refusal
@@ -80,15 +80,15 @@ module _ {V : Type 0} (M : Meaning V) (look : ℕ → Option V) where
   taken p (Some c) st = mapped (λ st'. (st', c.1)) (performed p c.0 st)
 
 -- The value memory begins with 1,024 places of variables.
-abbrev pub variable-places : ℕ
-variable-places = 1024
+abbrev pub variable_places : ℕ
+variable_places = 1024
 
 -- With the 16 work places after them it has 1,040 places.
-abbrev pub all-places : ℕ
-all-places = 1040
+abbrev pub all_places : ℕ
+all_places = 1040
 
 -- A memory of another length is refused; in one of 1,040 places `places` says where each variable lies that can be read.
-abbrev pub evaluated-in : {V : Type 0} → Meaning V → (places : ℕ → Option ℕ) → (memory : List V) → List ℕ → Result V Refusal
-evaluated-in M places memory bs = cond (length memory == all-places)
-    (evaluated M (λ v. value-at (take variable-places memory) (places v)) bs)
+abbrev pub evaluated_in : {V : Type 0} → Meaning V → (places : ℕ → Option ℕ) → (memory : List V) → List ℕ → Result V Refusal
+evaluated_in M places memory bs = cond (length memory == all_places)
+    (evaluated M (λ v. value_at (take variable_places memory) (places v)) bs)
     (Err Memory)

@@ -19,6 +19,6 @@ module _ {A B E : Type 0} where
   leaving b (Err e) = Err e
 
   -- A call that had a result left b, beside what the reference in the result points to; a refusal stays.
-  abbrev pub leaving-with : B → Result (Bor A) E → Result (B × A) E
-  leaving-with b (Ok a) = Ok (b, a.now)
-  leaving-with b (Err e) = Err e
+  abbrev pub leaving_with : B → Result (Bor A) E → Result (B × A) E
+  leaving_with b (Ok a) = Ok (b, a.now)
+  leaving_with b (Err e) = Err e

@@ -1,10 +1,10 @@
 //! The evaluator: from the bytes of an expression to its value.
 ghost use Rattle.std.specs.Prelude.{◌≡◌, ◌+◌, ◌<◌, ◌≤◌, [], ◌∷◌, length, take, IfOk, ◌≢◌};
 ghost use Rattle.arithmetic.specs.Meaning.{two, inverse};
-ghost use Rattle.evaluator.specs.Commands.{next-command, commands-of};
-ghost use Rattle.evaluator.specs.Evaluating.{stack-one, stack-found, operate-two, operate-one, only, value-at, taken, run, evaluated-in};
-ghost use Rattle.evaluator.specs.Outcomes.{leaving, leaving-with};
-ghost use Rattle.stack.specs.Stacks.{stacked, room, before-base};
+ghost use Rattle.evaluator.specs.Commands.{next_command, commands_of};
+ghost use Rattle.evaluator.specs.Evaluating.{stack_one, stack_found, operate_two, operate_one, only, value_at, taken, run, evaluated_in};
+ghost use Rattle.evaluator.specs.Outcomes.{leaving, leaving_with};
+ghost use Rattle.stack.specs.Stacks.{stacked, room, before_base};
 
 use arithmetic::Arithmetic;
 use arithmetic::operators::Operator;
@@ -30,9 +30,9 @@ pub const MOST_VARIABLES: usize = 32;
 // One value more for the command at a place.
 fn stack_value<T: Copy>(stack: &mut Stack<'_, T>, value: T, place: usize) -> Result<(), Refusal>
     requires { room stack.old ≡ 16 }
-    ensures answer { leaving (stacked stack.new) result ≡ stack-one place value (stacked stack.old) }
+    ensures answer { leaving (stacked stack.new) result ≡ stack_one place value (stacked stack.old) }
     ensures room { room stack.new ≡ room stack.old }
-    ensures before { before-base stack.new ≡ before-base stack.old }
+    ensures before { before_base stack.new ≡ before_base stack.old }
     ensures lender { stack.new.places.ghost_name ≡ stack.old.places.ghost_name }
 {
     match stack.push(value) {
@@ -43,7 +43,7 @@ fn stack_value<T: Copy>(stack: &mut Stack<'_, T>, value: T, place: usize) -> Res
 
 // What a variable holds, if it can be read.
 fn variable_value<T: Copy, S: Scope>(scope: &S, variable: u8, stack: &Stack<'_, T>) -> Option<T>
-    ensures { result ≡ value-at (before-base stack.now) (S.Scope.places scope.now variable) }
+    ensures { result ≡ value_at (before_base stack.now) (S.Scope.places scope.now variable) }
 {
     let place = scope.place(variable)?;
     stack.before_base(place)
@@ -57,9 +57,9 @@ fn stack_variable<T: Copy, S: Scope>(
     stack: &mut Stack<'_, T>,
 ) -> Result<(), Refusal>
     requires { (room stack.old ≡ 16) × (length (stacked stack.old) < 16) }
-    ensures answer { leaving (stacked stack.new) result ≡ stack-found place (value-at (before-base stack.old) (S.Scope.places scope.now variable)) (stacked stack.old) }
+    ensures answer { leaving (stacked stack.new) result ≡ stack_found place (value_at (before_base stack.old) (S.Scope.places scope.now variable)) (stacked stack.old) }
     ensures room { room stack.new ≡ room stack.old }
-    ensures before { before-base stack.new ≡ before-base stack.old }
+    ensures before { before_base stack.new ≡ before_base stack.old }
     ensures lender { stack.new.places.ghost_name ≡ stack.old.places.ghost_name }
 {
     match variable_value(scope, variable, stack) {
@@ -76,9 +76,9 @@ fn operate_on_two<A: Arithmetic>(
     stack: &mut Stack<'_, A::Value>,
 ) -> Result<(), Refusal>
     requires { room stack.old ≡ 16 }
-    ensures answer { leaving (stacked stack.new) result ≡ operate-two place (λ x y. (A.Arithmetic.meaning arithmetic.now).operated (two operator x y)) (stacked stack.old) }
+    ensures answer { leaving (stacked stack.new) result ≡ operate_two place (λ x y. (A.Arithmetic.meaning arithmetic.now).operated (two operator x y)) (stacked stack.old) }
     ensures room { room stack.new ≡ room stack.old }
-    ensures before { before-base stack.new ≡ before-base stack.old }
+    ensures before { before_base stack.new ≡ before_base stack.old }
     ensures lender { stack.new.places.ghost_name ≡ stack.old.places.ghost_name }
 {
     let Some(second) = stack.pop() else {
@@ -97,9 +97,9 @@ fn operate_on_one<A: Arithmetic>(
     stack: &mut Stack<'_, A::Value>,
 ) -> Result<(), Refusal>
     requires { room stack.old ≡ 16 }
-    ensures answer { leaving (stacked stack.new) result ≡ operate-one place (λ x. (A.Arithmetic.meaning arithmetic.now).operated (inverse x)) (stacked stack.old) }
+    ensures answer { leaving (stacked stack.new) result ≡ operate_one place (λ x. (A.Arithmetic.meaning arithmetic.now).operated (inverse x)) (stacked stack.old) }
     ensures room { room stack.new ≡ room stack.old }
-    ensures before { before-base stack.new ≡ before-base stack.old }
+    ensures before { before_base stack.new ≡ before_base stack.old }
     ensures lender { stack.new.places.ghost_name ≡ stack.old.places.ghost_name }
 {
     let Some(value) = stack.pop() else {
@@ -117,10 +117,10 @@ fn perform<'a, A: Arithmetic, S: Scope>(
     stack: &mut Stack<'_, A::Value>,
 ) -> Result<&'a [u8], Refusal>
     requires { room stack.old ≡ 16 }
-    ensures answer { leaving-with (stacked stack.new) result ≡ taken (A.Arithmetic.meaning arithmetic.now) (λ v. value-at (before-base stack.old) (S.Scope.places scope.now v)) place (next-command code.now) (stacked stack.old) }
+    ensures answer { leaving_with (stacked stack.new) result ≡ taken (A.Arithmetic.meaning arithmetic.now) (λ v. value_at (before_base stack.old) (S.Scope.places scope.now v)) place (next_command code.now) (stacked stack.old) }
     ensures shorter { IfOk result (λ rest. length rest.now < length code.now) }
     ensures room { room stack.new ≡ room stack.old }
-    ensures before { before-base stack.new ≡ before-base stack.old }
+    ensures before { before_base stack.new ≡ before_base stack.old }
     ensures lender { stack.new.places.ghost_name ≡ stack.old.places.ghost_name }
 {
     let [command, rest @ ..] = code else {
@@ -155,7 +155,7 @@ fn perform<'a, A: Arithmetic, S: Scope>(
 // The one value that remains.
 fn remaining<T: Copy>(stack: &mut Stack<'_, T>) -> Result<T, Refusal>
     ensures answer { result ≡ only (stacked stack.old) }
-    ensures before { before-base stack.new ≡ before-base stack.old }
+    ensures before { before_base stack.new ≡ before_base stack.old }
     ensures lender { stack.new.places.ghost_name ≡ stack.old.places.ghost_name }
 {
     if stack.depth() != 1 {
@@ -175,8 +175,8 @@ fn run_commands<A: Arithmetic, S: Scope>(
     stack: &mut Stack<'_, A::Value>,
 ) -> Result<(), Refusal>
     requires { (room stack.old ≡ 16) × (stacked stack.old ≡ []) }
-    ensures answer { leaving (stacked stack.new) result ≡ run (A.Arithmetic.meaning arithmetic.now) (λ v. value-at (before-base stack.old) (S.Scope.places scope.now v)) (commands-of code.now) [] }
-    ensures before { before-base stack.new ≡ before-base stack.old }
+    ensures answer { leaving (stacked stack.new) result ≡ run (A.Arithmetic.meaning arithmetic.now) (λ v. value_at (before_base stack.old) (S.Scope.places scope.now v)) (commands_of code.now) [] }
+    ensures before { before_base stack.new ≡ before_base stack.old }
     ensures lender { stack.new.places.ghost_name ≡ stack.old.places.ghost_name }
 {
     let mut rest = code;
@@ -194,7 +194,7 @@ pub fn evaluate<A: Arithmetic, S: Scope>(
     code: &[u8],
     memory: &mut [A::Value],
 ) -> Result<A::Value, Refusal>
-    ensures answer { result ≡ evaluated-in (A.Arithmetic.meaning arithmetic.now) (S.Scope.places scope.now) memory.old code.now }
+    ensures answer { result ≡ evaluated_in (A.Arithmetic.meaning arithmetic.now) (S.Scope.places scope.now) memory.old code.now }
     ensures variables { take 1024 memory.new ≡ take 1024 memory.old }
     ensures refused { (length memory.old ≢ 1040) → memory.new ≡ memory.old }
 {

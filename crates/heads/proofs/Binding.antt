@@ -14,42 +14,42 @@ module _ {A B E : Type 0} where
   bind_inv (Err g) f b e = let z : ◌≡◌ {A = ℕ} 0 1 = cc in absurd (omega arith)
 
   -- What an accepted image is the image of.
-  pub mapped-ok : (f : A → B) (r : Result A E) (b : B) → Ok b ≡ mapped f r → (a : A) × (r ≡ Ok a) × (f a ≡ b)
-  mapped-ok f (Ok a) b e = (a, refl, cc)
-  mapped-ok f (Err g) b e = let z : ◌≡◌ {A = ℕ} 0 1 = cc in absurd (omega arith)
+  pub mapped_ok : (f : A → B) (r : Result A E) (b : B) → Ok b ≡ mapped f r → (a : A) × (r ≡ Ok a) × (f a ≡ b)
+  mapped_ok f (Ok a) b e = (a, refl, cc)
+  mapped_ok f (Err g) b e = let z : ◌≡◌ {A = ℕ} 0 1 = cc in absurd (omega arith)
 
   -- A refused image is the image of that refusal.
-  pub mapped-err : (f : A → B) (r : Result A E) (g : E) → Err g ≡ mapped f r → r ≡ Err g
-  mapped-err f (Ok a) g e = let z : ◌≡◌ {A = ℕ} 0 1 = cc in absurd (omega arith)
-  mapped-err f (Err h) g e = cc
+  pub mapped_err : (f : A → B) (r : Result A E) (g : E) → Err g ≡ mapped f r → r ≡ Err g
+  mapped_err f (Ok a) g e = let z : ◌≡◌ {A = ℕ} 0 1 = cc in absurd (omega arith)
+  mapped_err f (Err h) g e = cc
 
   -- A refusal that `?` hands on.
-  pub err-mapped : (f : A → B) (r : Result A E) (g : E) → IsErrAnd r (λ e. e ≡ g) → mapped f r ≡ Err g
-  err-mapped f (Ok a) g h = absurd h
-  err-mapped f (Err e) g h = ap Err h
+  pub err_mapped : (f : A → B) (r : Result A E) (g : E) → IsErrAnd r (λ e. e ≡ g) → mapped f r ≡ Err g
+  err_mapped f (Ok a) g h = absurd h
+  err_mapped f (Err e) g h = ap Err h
 
 module _ {A E : Type 0} where
-  pub some-ok : {o : Option A} (g : E) {a : A} → o ≡ Some a → from_some o g ≡ Ok a
-  some-ok g e = ap (λ x. from_some x g) e
+  pub some_ok : {o : Option A} (g : E) {a : A} → o ≡ Some a → from_some o g ≡ Ok a
+  some_ok g e = ap (λ x. from_some x g) e
 
   pub same_ok : {a b : A} → ◌≡◌ {A = Result A E} (Ok a) (Ok b) → a ≡ b
   same_ok {a} {b} e = cc
 
 module _ {E : Type 0} where
-  pub ensure-ok : {b : Bool} (g : E) → b ≡ true → ensure b g ≡ Ok tt
-  ensure-ok g e = ap (λ x. ensure x g) e
+  pub ensure_ok : {b : Bool} (g : E) → b ≡ true → ensure b g ≡ Ok tt
+  ensure_ok g e = ap (λ x. ensure x g) e
 
   -- After a test that held.
-  pub ensure-then : {B : Type 0} (b : Bool) (g : E) (f : Unit {0} → Result B E) (y : B) → (ensure b g >>= f) ≡ Ok y → (b ≡ true) × (f tt ≡ Ok y)
-  ensure-then true g f y e = (refl, e)
-  ensure-then false g f y e = let z : ◌≡◌ {A = ℕ} 0 1 = cc in absurd (omega arith)
+  pub ensure_then : {B : Type 0} (b : Bool) (g : E) (f : Unit {0} → Result B E) (y : B) → (ensure b g >>= f) ≡ Ok y → (b ≡ true) × (f tt ≡ Ok y)
+  ensure_then true g f y e = (refl, e)
+  ensure_then false g f y e = let z : ◌≡◌ {A = ℕ} 0 1 = cc in absurd (omega arith)
 
 module _ {A E F : Type 0} where
   -- An upper layer keeps an answer.
-  pub refused-ok : (g : E → F) (r : Result A E) {a : A} → r ≡ Ok a → refused_as g r ≡ Ok a
-  refused-ok g r e = ap (refused_as g) e
+  pub refused_ok : (g : E → F) (r : Result A E) {a : A} → r ≡ Ok a → refused_as g r ≡ Ok a
+  refused_ok g r e = ap (refused_as g) e
 
   -- What an upper layer makes of a refusal is made whatever becomes of the answer.
-  pub refused-mapped : {B : Type 0} (f : A → B) (g : E → F) (r : Result A E) → mapped f (refused_as g r) ≡ refused_as g (mapped f r)
-  refused-mapped f g (Ok a) = refl
-  refused-mapped f g (Err e) = refl
+  pub refused_mapped : {B : Type 0} (f : A → B) (g : E → F) (r : Result A E) → mapped f (refused_as g r) ≡ refused_as g (mapped f r)
+  refused_mapped f g (Ok a) = refl
+  refused_mapped f g (Err e) = refl

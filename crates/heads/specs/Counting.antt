@@ -13,6 +13,6 @@ kept a = record { statements = a.statements; pars = a.pars; threads = a.threads 
 
 -- Counts of statements that passed the limits.
 pub record Few (a : Counts) : Type 0 where
-  pub few-statements : a.statements ≤ 512
-  pub few-pars : a.pars ≤ 15
-  pub few-threads : a.threads ≤ 1 + 2 * a.pars
+  pub few_statements : a.statements ≤ 512
+  pub few_pars : a.pars ≤ 15
+  pub few_threads : a.threads ≤ 1 + 2 * a.pars

@@ -13,8 +13,8 @@ abbrev pub second_block : (m n : ℕ) → List ℕ → List ℕ
 second_block m n l = take n (drop m l)
 
 -- The bytes after both.
-abbrev pub after-blocks : (m n : ℕ) → List ℕ → List ℕ
-after-blocks m n l = drop n (drop m l)
+abbrev pub after_blocks : (m n : ℕ) → List ℕ → List ℕ
+after_blocks m n l = drop n (drop m l)
 
 -- The parts that the code points to, with the bytes left after the head.
 abbrev pub pieces : List ℕ → Parts → Parted
@@ -23,9 +23,9 @@ pieces l p = record {
   code = p.code.now;
   first = first_block p.first_length l;
   second = second_block p.first_length p.second_length l;
-  after = after-blocks p.first_length p.second_length l;
+  after = after_blocks p.first_length p.second_length l;
 }
 
 -- A number and what follows it.
-abbrev pub number-rest : ℕ × Bor (List ℕ) → ℕ × List ℕ
-number-rest p = (p.0, p.1.now)
+abbrev pub number_rest : ℕ × Bor (List ℕ) → ℕ × List ℕ
+number_rest p = (p.0, p.1.now)

@@ -1,9 +1,9 @@
 -- The head of a statement, as the code holds it.
 use Rattle.std.specs.Prelude.{◌≡◌, ℕ, ◌+◌, ◌-◌, ◌<◌, ◌≤◌, true, false, List, [], length, take, drop}
-use Rattle.rules.specs.Forms.{has-expression, has_block, has-second-block, par-count}
-use Rattle.rules.specs.Reading.{code-place, Head as Headed}
+use Rattle.rules.specs.Forms.{has_expression, has_block, has_second_block, par_count}
+use Rattle.rules.specs.Reading.{place_of_code, Head as Headed}
 use Rattle.rules.specs.declared.program.Form.{Form}
-use Rattle.heads.specs.Pieces.{first_block, second_block, after-blocks}
+use Rattle.heads.specs.Pieces.{first_block, second_block, after_blocks}
 use Rattle.heads.specs.declared.counts.Counts.{Counts}
 use Rattle.heads.specs.declared.heads.Head.{Head}
 
@@ -12,7 +12,7 @@ pub record Seen : Type 0 where
   pub form : Form
   pub byte : ℕ
   pub code : List ℕ
-  pub code-from : ℕ
+  pub code_from : ℕ
   pub first : List ℕ
   pub second : List ℕ
   pub after : List ℕ
@@ -23,23 +23,23 @@ seen l h = record {
   form = h.form;
   byte = h.byte;
   code = h.code.now;
-  code-from = h.code_place;
+  code_from = h.code_place;
   first = first_block h.first_length l;
   second = second_block h.first_length h.second_length l;
-  after = after-blocks h.first_length h.second_length l;
+  after = after_blocks h.first_length h.second_length l;
 }
 
 -- The head of the rules, of a statement at place p.
-abbrev pub seen-head : (p : ℕ) → Headed → Seen
-seen-head p h = record { form = h.form; byte = h.parts.byte; code = h.parts.code; code-from = code-place h.form p; first = h.parts.first; second = h.parts.second; after = h.parts.after }
+abbrev pub seen_head : (p : ℕ) → Headed → Seen
+seen_head p h = record { form = h.form; byte = h.parts.byte; code = h.parts.code; code_from = place_of_code h.form p; first = h.parts.first; second = h.parts.second; after = h.parts.after }
 
 -- What an accepted head says of the limits and of its parts, in the bytes `rest` that follow its command, with the bytes `left` after the head.
 pub record Fine (rest left : List ℕ) (a : Counts) (h : Head) : Type 0 where
   pub short : h.first_length + h.second_length ≤ length left
   pub few : a.statements < 512
-  pub few-pars : a.pars + par-count h.form ≤ 15
-  pub no-first : has_block h.form ≡ false → h.first_length ≡ 0
-  pub no_second : has-second-block h.form ≡ false → h.second_length ≡ 0
-  pub code-near : h.code_place ≤ 4099
-  pub code-few : length h.code.now ≤ 255
-  pub code-part : has-expression h.form ≡ true → h.code.now ≡ take (length h.code.now) (drop (code-place h.form 0 - 1) rest)
+  pub few_pars : a.pars + par_count h.form ≤ 15
+  pub no_first : has_block h.form ≡ false → h.first_length ≡ 0
+  pub no_second : has_second_block h.form ≡ false → h.second_length ≡ 0
+  pub code_near : h.code_place ≤ 4099
+  pub code_few : length h.code.now ≤ 255
+  pub code_part : has_expression h.form ≡ true → h.code.now ≡ take (length h.code.now) (drop (place_of_code h.form 0 - 1) rest)

@@ -10,9 +10,9 @@ use Rattle.heads.specs.declared.faults.SitedFault.{SitedFault}
 use Rattle.heads.specs.declared.heads.Head.{Head}
 
 -- A head with the bytes left after it, or the fault of the program that a sited fault is.
-abbrev pub told-head : List ℕ → Result Head SitedFault → Result Seen LoadFault
-told-head l (Ok h) = Ok (seen l h)
-told-head l (Err f) = Err (Statement f.fault f.site)
+abbrev pub told_head : List ℕ → Result Head SitedFault → Result Seen LoadFault
+told_head l (Ok h) = Ok (seen l h)
+told_head l (Err f) = Err (Statement f.fault f.site)
 
 -- The head of a statement in a block that ends at `end`, as reading a statement begins.
 abbrev pub head_at : List Variable → (n t : ℕ) → Counts → (end c : ℕ) → List ℕ → Result Headed LoadFault

@@ -1,6 +1,6 @@
 //! What is counted while statements are read, and its limits.
 ghost use Rattle.std.specs.Prelude.{◌≡◌};
-ghost use Rattle.rules.specs.Reading.{within-limits};
+ghost use Rattle.rules.specs.Reading.{within_limits};
 ghost use Rattle.heads.specs.Counting.{counted};
 
 use crate::forms::{has_block, par_count};
@@ -25,7 +25,7 @@ pub struct Counts {
 
 /// Whether there is room for the statement, for its pars and for its blocks, where so many more nested blocks are allowed.
 pub fn within_limits(nesting: usize, form: Form, counts: Counts) -> bool
-    ensures { result ≡ within-limits nesting form (counted counts) }
+    ensures { result ≡ within_limits nesting form (counted counts) }
 {
     counts.statements < MOST_STATEMENTS
         && counts.pars <= MOST_PARS - par_count(form)

@@ -1,11 +1,11 @@
 //! Checks an expression: postfix commands over at most 16 stacked values.
 ghost use Rattle.std.specs.Prelude.{◌≡◌, ◌+◌, ◌^◌, ◌<◌, ◌≤◌, length, IfOk};
-ghost use Rattle.evaluator.specs.Commands.{next-command};
+ghost use Rattle.evaluator.specs.Commands.{next_command};
 ghost use Rattle.evaluator.specs.Outcomes.{mapped};
-ghost use Rattle.rules.specs.Reading.{read-expression};
-ghost use Rattle.declarations.specs.Declaring.{variables-of};
-ghost use Rattle.heads.specs.Pieces.{number-rest};
-ghost use Rattle.heads.specs.Steps.{one-command, unit};
+ghost use Rattle.rules.specs.Reading.{read_expression};
+ghost use Rattle.declarations.specs.Declaring.{variables_of};
+ghost use Rattle.heads.specs.Pieces.{number_rest};
+ghost use Rattle.heads.specs.Steps.{one_command, unit};
 
 use declarations::declaration::Declaration;
 use declarations::scopes::may_read;
@@ -21,7 +21,7 @@ fn step<'a>(
     declarations: &[Declaration],
 ) -> Result<(usize, &'a [u8]), StatementFault>
     requires { depth ≤ 16 }
-    ensures answer { mapped number-rest result ≡ one-command (variables-of declarations.now) thread place depth (next-command left.now) }
+    ensures answer { mapped number_rest result ≡ one_command (variables_of declarations.now) thread place depth (next_command left.now) }
     ensures shorter { IfOk result (λ p. (length p.1.now < length left.now) × (p.0 ≤ 16)) }
 {
     let [command, rest @ ..] = left else {
@@ -50,7 +50,7 @@ pub(crate) fn check_expression(
     declarations: &[Declaration],
 ) -> Result<(), StatementFault>
     requires { from + length code.now < 2 ^ 64 }
-    ensures { result ≡ mapped unit (read-expression (variables-of declarations.now) thread from statement code.now) }
+    ensures { result ≡ mapped unit (read_expression (variables_of declarations.now) thread from statement code.now) }
 {
     if code.is_empty() || code.len() > LONGEST {
         return Err(StatementFault::BadExpression(statement));

@@ -1,14 +1,14 @@
 //! The forms of statements: their command bytes, and which operands each has.
 ghost use Rattle.std.specs.Prelude.{◌≡◌, ◌≤◌};
-ghost use Rattle.rules.specs.Encoding.{form-byte};
-ghost use Rattle.rules.specs.Forms.{forms as all-forms, has-byte, has-expression, has_block, has-second-block, par-count, flags-known};
+ghost use Rattle.rules.specs.Encoding.{form_byte};
+ghost use Rattle.rules.specs.Forms.{forms as all-forms, has_byte, has_expression, has_block, has_second_block, par_count, flags_known};
 ghost use Rattle.rules.specs.Outcomes.{numbered};
 
 use rules::program::Form;
 
 /// The form whose command byte this is.
 pub fn form_of(command: u8) -> Option<Form>
-    ensures { result ≡ numbered form-byte all-forms command }
+    ensures { result ≡ numbered form_byte all-forms command }
 {
     match command {
         0 => Some(Form::Nothing),
@@ -24,7 +24,7 @@ pub fn form_of(command: u8) -> Option<Form>
 
 /// Whether a byte follows the command: a set's variable, a loop's bound, an abort's flags.
 pub fn has_byte(form: Form) -> bool
-    ensures { result ≡ has-byte form }
+    ensures { result ≡ has_byte form }
 {
     match form {
         Form::Set | Form::Loop | Form::Abort => true,
@@ -34,7 +34,7 @@ pub fn has_byte(form: Form) -> bool
 
 /// Whether the statement has an expression.
 pub fn has_expression(form: Form) -> bool
-    ensures { result ≡ has-expression form }
+    ensures { result ≡ has_expression form }
 {
     match form {
         Form::Set | Form::If | Form::Loop | Form::Abort => true,
@@ -54,7 +54,7 @@ pub fn has_block(form: Form) -> bool
 
 /// Whether the statement has a second block.
 pub fn has_second_block(form: Form) -> bool
-    ensures { result ≡ has-second-block form }
+    ensures { result ≡ has_second_block form }
 {
     match form {
         Form::If | Form::Par => true,
@@ -64,7 +64,7 @@ pub fn has_second_block(form: Form) -> bool
 
 /// How many pars the statement is, its blocks apart.
 pub fn par_count(form: Form) -> usize
-    ensures { (result ≡ par-count form) × (result ≤ 1) }
+    ensures { (result ≡ par_count form) × (result ≤ 1) }
 {
     match form {
         Form::Par => 1,
@@ -74,7 +74,7 @@ pub fn par_count(form: Form) -> usize
 
 /// Whether an abort's flags are known ones; no other form has flags.
 pub fn flags_known(form: Form, byte: u8) -> bool
-    ensures { result ≡ flags-known form byte }
+    ensures { result ≡ flags_known form byte }
 {
     match form {
         Form::Abort => byte < 4,

@@ -1,13 +1,13 @@
 //! The head of a statement: all of it but its blocks.
 ghost use Rattle.std.specs.Prelude.{◌≡◌, ◌+◌, ◌^◌, ◌<◌, ◌≤◌, length, IfOk};
 ghost use Rattle.evaluator.specs.Outcomes.{mapped};
-ghost use Rattle.rules.specs.Forms.{has-expression};
-ghost use Rattle.rules.specs.Reading.{code-place, set-right, expression-of, read_head as head_read};
-ghost use Rattle.declarations.specs.Declaring.{variables-of};
+ghost use Rattle.rules.specs.Forms.{has_expression};
+ghost use Rattle.rules.specs.Reading.{place_of_code, set_right, expression_of, read_head as head_read};
+ghost use Rattle.declarations.specs.Declaring.{variables_of};
 ghost use Rattle.heads.specs.Counting.{counted};
-ghost use Rattle.heads.specs.Readers.{left-of, statement-place, Same-block};
-ghost use Rattle.heads.specs.Seen.{seen, seen-head, Fine};
-ghost use Rattle.heads.specs.Sites.{told-head, head_at};
+ghost use Rattle.heads.specs.Readers.{left_of, statement_place, SameBlock};
+ghost use Rattle.heads.specs.Seen.{seen, seen_head, Fine};
+ghost use Rattle.heads.specs.Sites.{told_head, head_at};
 ghost use Rattle.heads.specs.Steps.{unit};
 
 use crate::counts::{Counts, within_limits};
@@ -35,7 +35,7 @@ pub struct Head<'a> {
 
 // Whether a set names a variable that its thread sets.
 fn set_right(declarations: &[Declaration], thread: usize, form: Form, byte: u8) -> bool
-    ensures { result ≡ set-right (variables-of declarations.now) thread form byte }
+    ensures { result ≡ set_right (variables_of declarations.now) thread form byte }
 {
     match form {
         Form::Set => may_set(declarations, thread, byte),
@@ -46,7 +46,7 @@ fn set_right(declarations: &[Declaration], thread: usize, form: Form, byte: u8) 
 // Where the expression of a statement begins.
 fn code_begin(form: Form, place: usize) -> usize
     requires { place ≤ 4096 }
-    ensures { (result ≡ code-place form place) × (result ≤ place + 3) }
+    ensures { (result ≡ place_of_code form place) × (result ≤ place + 3) }
 {
     if has_byte(form) {
         place + 2 + 1
@@ -65,7 +65,7 @@ fn check_code(
     declarations: &[Declaration],
 ) -> Result<(), StatementFault>
     requires { from + length code.now < 2 ^ 64 }
-    ensures { result ≡ mapped unit (expression-of (variables-of declarations.now) thread from statement (has-expression form) code.now) }
+    ensures { result ≡ mapped unit (expression_of (variables_of declarations.now) thread from statement (has_expression form) code.now) }
 {
     if has_expression(form) {
         check_expression(code, from, statement, thread, declarations)
@@ -82,9 +82,9 @@ fn checked_head<'a>(
     counts: Counts,
     declarations: &[Declaration],
 ) -> Result<Head<'a>, StatementFault>
-    ensures answer { mapped (seen (left-of reader.new)) result ≡ mapped (seen-head (statement-place reader.old)) (head_read (variables-of declarations.now) scope.nesting scope.thread (counted counts) (statement-place reader.old) command (left-of reader.old)) }
-    ensures fine { IfOk result (λ h. Fine (left-of reader.old) (left-of reader.new) counts h) }
-    ensures block { Same-block reader.old reader.new }
+    ensures answer { mapped (seen (left_of reader.new)) result ≡ mapped (seen_head (statement_place reader.old)) (head_read (variables_of declarations.now) scope.nesting scope.thread (counted counts) (statement_place reader.old) command (left_of reader.old)) }
+    ensures fine { IfOk result (λ h. Fine (left_of reader.old) (left_of reader.new) counts h) }
+    ensures block { SameBlock reader.old reader.new }
 {
     let statement = reader.statement();
     let Some(form) = form_of(command) else {
@@ -133,9 +133,9 @@ pub fn read_head<'a>(
     counts: Counts,
     declarations: &[Declaration],
 ) -> Result<Head<'a>, SitedFault>
-    ensures answer { told-head (left-of reader.new) result ≡ mapped (seen-head (statement-place reader.old)) (head_at (variables-of declarations.now) scope.nesting scope.thread (counted counts) reader.old.end command (left-of reader.old)) }
-    ensures fine { IfOk result (λ h. Fine (left-of reader.old) (left-of reader.new) counts h) }
-    ensures block { Same-block reader.old reader.new }
+    ensures answer { told_head (left_of reader.new) result ≡ mapped (seen_head (statement_place reader.old)) (head_at (variables_of declarations.now) scope.nesting scope.thread (counted counts) reader.old.end command (left_of reader.old)) }
+    ensures fine { IfOk result (λ h. Fine (left_of reader.old) (left_of reader.new) counts h) }
+    ensures block { SameBlock reader.old reader.new }
 {
     let site = Site {
         statement: counts.statements,

@@ -3,7 +3,7 @@ ghost use Rattle.std.specs.Prelude.{◌≡◌, ◌+◌, ◌≤◌, length, IfOk}
 ghost use Rattle.evaluator.specs.Outcomes.{mapped};
 ghost use Rattle.rules.specs.Reading.{parts_in};
 ghost use Rattle.heads.specs.Pieces.{pieces};
-ghost use Rattle.heads.specs.Readers.{left-of, Same-block};
+ghost use Rattle.heads.specs.Readers.{left_of, SameBlock};
 
 use crate::forms::{has_block, has_byte, has_expression, has_second_block};
 use crate::reader::Reader;
@@ -25,9 +25,9 @@ pub fn take_parts<'a>(
     form: Form,
     statement: usize,
 ) -> Result<Parts<'a>, ReadingFault>
-    ensures answer { mapped (pieces (left-of reader.new)) result ≡ parts_in statement form (left-of reader.old) }
-    ensures fits { IfOk result (λ p. p.first_length + p.second_length ≤ length (left-of reader.new)) }
-    ensures block { Same-block reader.old reader.new }
+    ensures answer { mapped (pieces (left_of reader.new)) result ≡ parts_in statement form (left_of reader.old) }
+    ensures fits { IfOk result (λ p. p.first_length + p.second_length ≤ length (left_of reader.new)) }
+    ensures block { SameBlock reader.old reader.new }
 {
     let byte = reader.byte(has_byte(form), statement)?;
     let code = reader.code(has_expression(form), statement)?;

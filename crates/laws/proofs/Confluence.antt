@@ -1,7 +1,7 @@
 -- From the exchange of steps: all complete runs have one length and one end.
 use Rattle.std.proofs.Common.{◌≡◌, ℕ, zero, suc, Bool, T, ◌≢◌, List, [], ◌∷◌, length, sym, refl, ap, ◌∙◌, subst}
 use native.Mathlib.Decide.{ℕ_discrete}
-use Rattle.laws.specs.Orders.{Runs, after, Final, Diamond, One-outcome}
+use Rattle.laws.specs.Orders.{Runs, after, Final, Diamond, OneOutcome}
 
 module _ {S : Type 0} (ready : ℕ → S → Bool) (step : ℕ → S → S) (dia : Diamond ready step) where
   -- A complete run can begin with any thread that is ready.
@@ -29,10 +29,10 @@ module _ {S : Type 0} (ready : ℕ → S → Bool) (step : ℕ → S → S) (dia
       go (yes e) ih = subst (λ x. Begins x (u ∷ ts) s) (sym e) (record { ts' = ts; runs = r.1; same = refl; len = refl })
       go (no ne) ih = other ne (ih (dia s u t (λ e. ne (sym e)) r.0 h).0)
 
-  pub one-outcome : One-outcome ready step
-  one-outcome s [] [] r f r' f' = (refl, refl)
-  one-outcome s [] (u ∷ us) r f r' f' = absurd (f u r'.0)
-  one-outcome s (t ∷ ts) us r f r' f' =
+  pub one_outcome : OneOutcome ready step
+  one_outcome s [] [] r f r' f' = (refl, refl)
+  one_outcome s [] (u ∷ us) r f r' f' = absurd (f u r'.0)
+  one_outcome s (t ∷ ts) us r f r' f' =
       let b = begins us s t r' f' r.0 in
-      let i = one-outcome (step t s) ts b.ts' r.1 f b.runs (subst (Final ready step) (sym b.same) f') in
+      let i = one_outcome (step t s) ts b.ts' r.1 f b.runs (subst (Final ready step) (sym b.same) f') in
       (ap suc i.0 ∙ sym b.len, i.1 ∙ b.same)

@@ -2,23 +2,23 @@
 use Rattle.std.specs.Prelude.{◌≡◌, ℕ, Bool, true, false, List, ◌≤ℤ◌, slice_index_or}
 use Rattle.arithmetic.specs.Meaning.{Meaning}
 use Rattle.rules.specs.Calls.{Call, Machine, empty, running}
-use Rattle.rules.specs.Runs.{after-calls}
+use Rattle.rules.specs.Runs.{after_calls}
 use Rattle.rules.specs.Scopes.{is_shared}
-use Rattle.rules.specs.Values.{declared, zero-value}
+use Rattle.rules.specs.Values.{declared, zero_value}
 use Rattle.rules.specs.Variables.{Variable}
 
 module _ {V : Type 0} (M : Meaning V) (ds : List Variable) where
   -- The values of shared variables show numbers within the declared limits.
-  abbrev pub Within-limits : List V → Type 0
-  Within-limits xs = (v : ℕ) → is_shared (declared ds v).kind ≡ true →
-      ((declared ds v).low ≤ℤ M.shows (slice_index_or xs v (zero-value M))) × (M.shows (slice_index_or xs v (zero-value M)) ≤ℤ (declared ds v).high)
+  abbrev pub WithinLimits : List V → Type 0
+  WithinLimits xs = (v : ℕ) → is_shared (declared ds v).kind ≡ true →
+      ((declared ds v).low ≤ℤ M.shows (slice_index_or xs v (zero_value M))) × (M.shows (slice_index_or xs v (zero_value M)) ≤ℤ (declared ds v).high)
 
 module _ {V : Type 0} (M : Meaning V) where
   -- The stores of shared variables, the rates among them, show numbers within their declared limits; with nothing loaded nothing is said.
-  abbrev pub Machine-within : Machine V → Type 0
-  Machine-within (empty w) = Unit {0}
-  Machine-within (running w bs p σ b c) = Within-limits M p.variables σ.stores
+  abbrev pub MachineWithin : Machine V → Type 0
+  MachineWithin (empty w) = Unit {0}
+  MachineWithin (running w bs p σ b c) = WithinLimits M p.variables σ.stores
 
   -- They do whatever is called in whatever order.
-  abbrev pub Rates-stay-within-limits : Type 0
-  Rates-stay-within-limits = (memory : List V) (cs : List Call) → Machine-within (after-calls M memory cs).0
+  abbrev pub RatesStayWithinLimits : Type 0
+  RatesStayWithinLimits = (memory : List V) (cs : List Call) → MachineWithin (after_calls M memory cs).0

@@ -24,14 +24,14 @@ module _ {S : Type 0} (ready : ℕ → S → Bool) (step : ℕ → S → S) wher
   Diamond = (s : S) (t u : ℕ) → t ≢ u → T (ready t s) → T (ready u s) → T (ready u (step t s)) × (step u (step t s) ≡ step t (step u s))
 
   -- All complete runs have one length and one end.
-  abbrev pub One-outcome : Type 0
-  One-outcome = (s : S) (ts us : List ℕ) → Runs ts s → Final (after ts s) → Runs us s → Final (after us s) →
+  abbrev pub OneOutcome : Type 0
+  OneOutcome = (s : S) (ts us : List ℕ) → Runs ts s → Final (after ts s) → Runs us s → Final (after us s) →
       (length ts ≡ length us) × (after ts s ≡ after us s)
 
 -- Steps of two ready threads can be exchanged, in every arithmetic, over all stores.
-abbrev pub Steps-can-be-exchanged : Type 0 → Type 0
-Steps-can-be-exchanged V = (M : Meaning V) (ds : List Variable) (stores : List V) → Diamond ready? (step M ds stores)
+abbrev pub StepsCanBeExchanged : Type 0 → Type 0
+StepsCanBeExchanged V = (M : Meaning V) (ds : List Variable) (stores : List V) → Diamond ready? (step M ds stores)
 
 -- However the steps of a tick are ordered, all complete orders have one length and one end.
-abbrev pub Orders-have-one-outcome : Type 0 → Type 0
-Orders-have-one-outcome V = (M : Meaning V) (ds : List Variable) (stores : List V) → One-outcome ready? (step M ds stores)
+abbrev pub OrdersHaveOneOutcome : Type 0 → Type 0
+OrdersHaveOneOutcome V = (M : Meaning V) (ds : List Variable) (stores : List V) → OneOutcome ready? (step M ds stores)

@@ -2,46 +2,46 @@
 use Rattle.std.proofs.Common.{◌≡◌, ℕ, ◌+◌, ◌<◌, ◌≤◌, List, [], ◌∷◌, ◌++◌, length, get_or, drop, ℤ, Ok, Err, Result, sym, refl, ap, ◌∙◌, append_assoc, append-nil, arith, Bor}
 use Rattle.std.proofs.lemmas.List.{drop_more, drop_all}
 use Rattle.evaluator.specs.Outcomes.{mapped}
-use Rattle.words.specs.Decimal.{number_at, number-before, numbers-from}
+use Rattle.words.specs.Decimal.{number_at, number_before, numbers_from}
 use Rattle.words.specs.Splitting.{texts}
 use Rattle.words.specs.declared.problem.Problem.{Problem}
 
 -- Numbers before others, if those can be read.
-abbrev pub before-ok : List ℤ → Result (List ℤ) Problem → Result (List ℤ) Problem
-before-ok xs r = mapped (λ more. xs ++ more) r
+abbrev pub before_ok : List ℤ → Result (List ℤ) Problem → Result (List ℤ) Problem
+before_ok xs r = mapped (λ more. xs ++ more) r
 
-nothing-before-ok : (r : Result (List ℤ) Problem) → r ≡ before-ok [] r
-nothing-before-ok (Ok x) = refl
-nothing-before-ok (Err e) = refl
+nothing_before_ok : (r : Result (List ℤ) Problem) → r ≡ before_ok [] r
+nothing_before_ok (Ok x) = refl
+nothing_before_ok (Err e) = refl
 
-number-joins : (ns : List ℤ) (n : ℤ) (r : Result (List ℤ) Problem) → before-ok ns (number-before (Ok n) r) ≡ before-ok (ns ++ (n ∷ [])) r
-number-joins ns n (Err e) = refl
-number-joins ns n (Ok more) = ap Ok (sym (append_assoc ns (n ∷ []) more))
+number_joins : (ns : List ℤ) (n : ℤ) (r : Result (List ℤ) Problem) → before_ok ns (number_before (Ok n) r) ≡ before_ok (ns ++ (n ∷ [])) r
+number_joins ns n (Err e) = refl
+number_joins ns n (Ok more) = ap Ok (sym (append_assoc ns (n ∷ []) more))
 
 -- The numbers read so far, and how many words they were.
-abbrev pub Numbers-so-far : List (Bor (List ℕ)) → List ℤ → ℕ → Type 0
-Numbers-so-far ws ns i = numbers-from 5 (texts ws) ≡ before-ok ns (numbers-from (5 + i) (texts (drop i ws)))
+abbrev pub NumbersSoFar : List (Bor (List ℕ)) → List ℤ → ℕ → Type 0
+NumbersSoFar ws ns i = numbers_from 5 (texts ws) ≡ before_ok ns (numbers_from (5 + i) (texts (drop i ws)))
 
-pub numbers-none : (ws : List (Bor (List ℕ))) (ns : List ℤ) → ns ≡ [] → Numbers-so-far ws ns 0
-numbers-none ws ns e = nothing-before-ok (numbers-from 5 (texts ws)) ∙ ap (λ xs. before-ok xs (numbers-from 5 (texts ws))) (sym e)
+pub numbers_none : (ws : List (Bor (List ℕ))) (ns : List ℤ) → ns ≡ [] → NumbersSoFar ws ns 0
+numbers_none ws ns e = nothing_before_ok (numbers_from 5 (texts ws)) ∙ ap (λ xs. before_ok xs (numbers_from 5 (texts ws))) (sym e)
 
-module _ (ws : List (Bor (List ℕ))) (ns : List ℤ) (i : ℕ) (d : Bor (List ℕ)) (inv : Numbers-so-far ws ns i) (h : i < length ws) where
-  next-number : numbers-from (5 + i) (texts (drop i ws)) ≡ number-before (number_at (5 + i) (get_or ws i d).now) (numbers-from (5 + (i + 1)) (texts (drop (i + 1) ws)))
-  next-number =
+module _ (ws : List (Bor (List ℕ))) (ns : List ℤ) (i : ℕ) (d : Bor (List ℕ)) (inv : NumbersSoFar ws ns i) (h : i < length ws) where
+  next_number : numbers_from (5 + i) (texts (drop i ws)) ≡ number_before (number_at (5 + i) (get_or ws i d).now) (numbers_from (5 + (i + 1)) (texts (drop (i + 1) ws)))
+  next_number =
       let e : 5 + i + 1 ≡ 5 + (i + 1) = omega arith in
-      ap (λ xs. numbers-from (5 + i) (texts xs)) (drop_more ws i d h)
-      ∙ ap (λ p. number-before (number_at (5 + i) (get_or ws i d).now) (numbers-from p (texts (drop (i + 1) ws)))) e
+      ap (λ xs. numbers_from (5 + i) (texts xs)) (drop_more ws i d h)
+      ∙ ap (λ p. number_before (number_at (5 + i) (get_or ws i d).now) (numbers_from p (texts (drop (i + 1) ws)))) e
 
-  pub numbers_more : (n : ℤ) (new : List ℤ) → number_at (5 + i) (get_or ws i d).now ≡ Ok n → new ≡ ns ++ (n ∷ []) → Numbers-so-far ws new (i + 1)
+  pub numbers_more : (n : ℤ) (new : List ℤ) → number_at (5 + i) (get_or ws i d).now ≡ Ok n → new ≡ ns ++ (n ∷ []) → NumbersSoFar ws new (i + 1)
   numbers_more n new e pushed =
-      let rest = numbers-from (5 + (i + 1)) (texts (drop (i + 1) ws)) in
-      inv ∙ ap (before-ok ns) next-number ∙ ap (λ r. before-ok ns (number-before r rest)) e ∙ number-joins ns n rest ∙ ap (λ xs. before-ok xs rest) (sym pushed)
+      let rest = numbers_from (5 + (i + 1)) (texts (drop (i + 1) ws)) in
+      inv ∙ ap (before_ok ns) next_number ∙ ap (λ r. before_ok ns (number_before r rest)) e ∙ number_joins ns n rest ∙ ap (λ xs. before_ok xs rest) (sym pushed)
 
-  pub numbers-spoilt : (p : Problem) → number_at (5 + i) (get_or ws i d).now ≡ Err p → numbers-from 5 (texts ws) ≡ Err p
-  numbers-spoilt p e =
-      let rest = numbers-from (5 + (i + 1)) (texts (drop (i + 1) ws)) in
-      inv ∙ ap (before-ok ns) next-number ∙ ap (λ r. before-ok ns (number-before r rest)) e
+  pub numbers_spoilt : (p : Problem) → number_at (5 + i) (get_or ws i d).now ≡ Err p → numbers_from 5 (texts ws) ≡ Err p
+  numbers_spoilt p e =
+      let rest = numbers_from (5 + (i + 1)) (texts (drop (i + 1) ws)) in
+      inv ∙ ap (before_ok ns) next_number ∙ ap (λ r. before_ok ns (number_before r rest)) e
 
-pub numbers-all : (ws : List (Bor (List ℕ))) (ns : List ℤ) (i : ℕ) → Numbers-so-far ws ns i → length ws ≤ i → numbers-from 5 (texts ws) ≡ Ok ns
-numbers-all ws ns i inv h =
-    inv ∙ ap (λ xs. before-ok ns (numbers-from (5 + i) (texts xs))) (drop_all i ws h) ∙ ap Ok (append-nil ns)
+pub numbers_all : (ws : List (Bor (List ℕ))) (ns : List ℤ) (i : ℕ) → NumbersSoFar ws ns i → length ws ≤ i → numbers_from 5 (texts ws) ≡ Ok ns
+numbers_all ws ns i inv h =
+    inv ∙ ap (λ xs. before_ok ns (numbers_from (5 + i) (texts xs))) (drop_all i ws h) ∙ ap Ok (append-nil ns)

@@ -1,8 +1,8 @@
 //! One line of a job: a command with its words.
 ghost use Rattle.std.specs.Prelude.{◌≡◌, ◌≤◌, length, vec_items};
 ghost use Rattle.evaluator.specs.Outcomes.{mapped};
-ghost use Rattle.words.specs.Decimal.{numbers-from};
-ghost use Rattle.lines.specs.Lines.{said, evaluation-said, limits-shown, limits-in, readings-in, evaluation-in, choice-named, choice-in, only-word, command-line, line_of, Reads-as};
+ghost use Rattle.words.specs.Decimal.{numbers_from};
+ghost use Rattle.lines.specs.Lines.{said, evaluation_said, limits_shown, limits_in, readings_in, evaluation_in, choice_named, choice_in, only_word, command_line, line_of, ReadsAs};
 ghost use Rattle.words.specs.Outcomes.{Gives};
 ghost use Rattle.words.specs.Splitting.{texts};
 
@@ -37,7 +37,7 @@ const FIRST_READING: usize = 5;
 
 // The limits in two decimal words, words 2 and 3 of their line.
 fn limits_in(low: &str, high: &str) -> Result<Limits, Problem>
-    ensures { mapped limits-shown result ≡ limits-in low.now high.now }
+    ensures { mapped limits_shown result ≡ limits_in low.now high.now }
 {
     let low = number_at(2, low)?;
     let high = number_at(3, high)?;
@@ -47,7 +47,7 @@ fn limits_in(low: &str, high: &str) -> Result<Limits, Problem>
 // The numbers of all words.
 fn numbers_in(heap: Global, words: &[&str]) -> Result<Vec<i32>, Problem>
     requires { length words.now ≤ 32 }
-    ensures { Gives vec_items (numbers-from 5 (texts words.now)) result }
+    ensures { Gives vec_items (numbers_from 5 (texts words.now)) result }
 {
     let mut numbers = Vec::new(heap);
     for (i, word) in words.iter().enumerate() {
@@ -59,7 +59,7 @@ fn numbers_in(heap: Global, words: &[&str]) -> Result<Vec<i32>, Problem>
 
 // The readings of input variables 0, 1, .., at most 32.
 fn readings_in(heap: Global, words: &[&str]) -> Result<Vec<i32>, Problem>
-    ensures { Gives vec_items (readings-in (texts words.now)) result }
+    ensures { Gives vec_items (readings_in (texts words.now)) result }
 {
     if words.len() > MOST_VARIABLES {
         return Err(Problem::TooManyReadings);
@@ -69,7 +69,7 @@ fn readings_in(heap: Global, words: &[&str]) -> Result<Vec<i32>, Problem>
 
 // What stands after `evaluate`.
 fn evaluation_in(heap: Global, words: &[&str]) -> Result<Evaluation, Problem>
-    ensures { Gives evaluation-said (evaluation-in (texts words.now)) result }
+    ensures { Gives evaluation_said (evaluation_in (texts words.now)) result }
 {
     let [low, high, code, readings @ ..] = words else {
         return Err(Problem::MissingWord);
@@ -86,7 +86,7 @@ fn evaluation_in(heap: Global, words: &[&str]) -> Result<Evaluation, Problem>
 
 // The arithmetic of that name.
 fn choice_named(name: &str) -> Result<Choice, Problem>
-    ensures { result ≡ choice-named name.now }
+    ensures { result ≡ choice_named name.now }
 {
     match name {
         "plain" => Ok(Choice::Plain),
@@ -97,7 +97,7 @@ fn choice_named(name: &str) -> Result<Choice, Problem>
 
 // What stands after `arithmetic`.
 fn choice_in(words: &[&str]) -> Result<Choice, Problem>
-    ensures { result ≡ choice-in (texts words.now) }
+    ensures { result ≡ choice_in (texts words.now) }
 {
     match words {
         [] => Err(Problem::MissingWord),
@@ -108,7 +108,7 @@ fn choice_in(words: &[&str]) -> Result<Choice, Problem>
 
 // The line of a command that takes no words.
 fn only_word(line: Line, words: &[&str]) -> Result<Line, Problem>
-    ensures { mapped said result ≡ only-word (said line) (texts words.now) }
+    ensures { mapped said result ≡ only_word (said line) (texts words.now) }
 {
     if words.is_empty() {
         Ok(line)
@@ -119,7 +119,7 @@ fn only_word(line: Line, words: &[&str]) -> Result<Line, Problem>
 
 // The line of a command and the words after it.
 fn command_line(heap: Global, command: &str, words: &[&str]) -> Result<Line, Problem>
-    ensures { Gives said (command-line command.now (texts words.now)) result }
+    ensures { Gives said (command_line command.now (texts words.now)) result }
 {
     match command {
         "arithmetic" => Ok(Line::Arithmetic(choice_in(words)?)),
@@ -142,7 +142,7 @@ fn line_of(heap: Global, words: &[&str]) -> Result<Line, Problem>
 
 /// What a line of text asks for.
 pub fn parse(heap: Global, text: &str) -> Result<Line, Problem>
-    ensures { Reads-as text.now result }
+    ensures { ReadsAs text.now result }
 {
     let words = words_of(heap, text)?;
     line_of(heap, words.as_slice())

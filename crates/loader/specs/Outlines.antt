@@ -1,6 +1,6 @@
 -- What is known of a program that was read.
 use Rattle.std.specs.Prelude.{ℕ, ◌+◌, true, false, List, Ok, Err, Result, nat_le}
-use Rattle.rules.specs.Lengths.{tick-length, longest-tick}
+use Rattle.rules.specs.Lengths.{tick_length, longest_tick}
 use Rattle.rules.specs.Outcomes.{◌>>=◌, ensure}
 use Rattle.rules.specs.Text.{Program, count, arms}
 use Rattle.rules.specs.Variables.{Variable}
@@ -21,11 +21,11 @@ abbrev pub outline : Checked → Outline
 outline c = record { variables = listed c.declarations; ticks = c.tick_length; statements = c.statements; threads = c.threads }
 
 -- What the program is: main and each arm is a thread.
-abbrev pub outline-of : Program → Outline
-outline-of p = record { variables = p.variables; ticks = tick-length p; statements = count p.main; threads = 1 + arms p.main }
+abbrev pub outline_of : Program → Outline
+outline_of p = record { variables = p.variables; ticks = tick_length p; statements = count p.main; threads = 1 + arms p.main }
 
 -- The tick length of a program whose main block is so long; one over the limit is refused.
-abbrev pub in-time : ℕ → Result ℕ LoadFault
-in-time n = do
-  _ ← ensure (nat_le (n + 1) longest-tick) TickTooLong
+abbrev pub in_time : ℕ → Result ℕ LoadFault
+in_time n = do
+  _ ← ensure (nat_le (n + 1) longest_tick) TickTooLong
   Ok (n + 1)

@@ -2,7 +2,7 @@
 ghost use Rattle.std.specs.Prelude.{◌≡◌};
 ghost use Rattle.evaluator.specs.Outcomes.{mapped};
 ghost use Rattle.rules.specs.Reading.{read};
-ghost use Rattle.loader.specs.Outlines.{in-time, outline, outline-of};
+ghost use Rattle.loader.specs.Outlines.{in_time, outline, outline_of};
 
 use declarations::list::Declarations;
 use declarations::program::{owners_live, read_declarations};
@@ -24,7 +24,7 @@ pub struct Checked {
 
 // The tick length of a program whose main block has this extent; too long where it is over the limit.
 fn tick_length(extent: Extent) -> Result<u32, LoadFault>
-    ensures { result ≡ in-time extent.length }
+    ensures { result ≡ in_time extent.length }
 {
     if extent.length >= LONGEST_TICK {
         return Err(LoadFault::TickTooLong);
@@ -34,7 +34,7 @@ fn tick_length(extent: Extent) -> Result<u32, LoadFault>
 
 /// Reads and checks a program: what is known of it, or its first fault.
 pub fn read_program(bytes: &[u8]) -> Result<Checked, LoadFault>
-    ensures { mapped outline result ≡ mapped outline-of (read bytes.now) }
+    ensures { mapped outline result ≡ mapped outline_of (read bytes.now) }
 {
     let declarations = read_declarations(bytes)?;
     let count = declarations.as_slice().len();

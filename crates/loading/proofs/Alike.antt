@@ -13,24 +13,24 @@ pub alike_self : (s m : ℕ) (bs : List ℕ) → Alike s m bs bs
 alike_self s m bs = record { long = refl; same = λ i h. refl }
 
 -- Equally many bytes with the same front are alike.
-pub alike-by-front : (m : ℕ) (bs bs' : List ℕ) → length bs ≡ length bs' → take m bs ≡ take m bs' → Alike 0 m bs bs'
-alike-by-front m bs bs' l h = record {
+pub alike_by_front : (m : ℕ) (bs bs' : List ℕ) → length bs ≡ length bs' → take m bs ≡ take m bs' → Alike 0 m bs bs'
+alike_by_front m bs bs' l h = record {
   long = l;
   same = λ i lt. let k : i < m = omega arith in sym (get_or-take m bs i 0 k) ∙ ap (λ xs. get_or xs i 0) h ∙ get_or-take m bs' i 0 k;
 }
 
 module _ (s m : ℕ) where
   -- The first bytes are the same, where that is before m.
-  pub alike-first : (b b' : ℕ) (bs bs' : List ℕ) → s < m → Alike s m (b ∷ bs) (b' ∷ bs') → b ≡ b'
-  alike-first b b' bs bs' lt h = h.same 0 (omega arith)
+  pub alike_first : (b b' : ℕ) (bs bs' : List ℕ) → s < m → Alike s m (b ∷ bs) (b' ∷ bs') → b ≡ b'
+  alike_first b b' bs bs' lt h = h.same 0 (omega arith)
 
   -- What comes after the first bytes is alike.
-  pub alike-rest : (b b' : ℕ) (bs bs' : List ℕ) → Alike s m (b ∷ bs) (b' ∷ bs') → Alike (s + 1) m bs bs'
-  alike-rest b b' bs bs' h = let l = h.long in record { long = omega arith; same = λ i lt. h.same (suc i) (omega arith) }
+  pub alike_rest : (b b' : ℕ) (bs bs' : List ℕ) → Alike s m (b ∷ bs) (b' ∷ bs') → Alike (s + 1) m bs bs'
+  alike_rest b b' bs bs' h = let l = h.long in record { long = omega arith; same = λ i lt. h.same (suc i) (omega arith) }
 
   -- Fronts of alike bytes are alike.
-  pub alike-take : (n : ℕ) (bs bs' : List ℕ) → Alike s m bs bs' → Alike s m (take n bs) (take n bs')
-  alike-take n bs bs' h =
+  pub alike_take : (n : ℕ) (bs bs' : List ℕ) → Alike s m bs bs' → Alike s m (take n bs) (take n bs')
+  alike_take n bs bs' h =
       let l = h.long in let k = length-take n bs in let k' = length-take n bs' in
       record {
         long = omega arith;
@@ -42,8 +42,8 @@ module _ (s m : ℕ) where
       }
 
   -- What comes after a front of alike bytes is alike.
-  pub alike-drop : (n : ℕ) (bs bs' : List ℕ) → Alike s m bs bs' → Alike (s + n) m (drop n bs) (drop n bs')
-  alike-drop n bs bs' h =
+  pub alike_drop : (n : ℕ) (bs bs' : List ℕ) → Alike s m bs bs' → Alike (s + n) m (drop n bs) (drop n bs')
+  alike_drop n bs bs' h =
       let l = h.long in let k = length-drop n bs in let k' = length-drop n bs' in
       record { long = omega arith; same = λ i lt. get_or-drop n bs i 0 ∙ h.same (n + i) (omega arith) ∙ sym (get_or-drop n bs' i 0) }
 

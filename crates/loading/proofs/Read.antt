@@ -2,31 +2,31 @@
 use Rattle.std.proofs.Common.{◌≡◌, ℕ, zero, suc, ◌+◌, ◌-◌, ◌<◌, ◌≤◌, Bool, true, false, not, ◌||◌, ltb, List, [], ◌∷◌, ◌++◌, length, Ok, sym, refl, ap, ◌∙◌, subst, arith, length-append}
 use Rattle.std.proofs.lemmas.Bool.{leb-true, ltb-true, and_parts}
 use Rattle.evaluator.specs.Commands.{written}
-use Rattle.rules.specs.Encoding.{form-byte, statement-bytes, block-bytes}
-use Rattle.rules.specs.Forms.{forms, has-expression, has_block, has-second-block, par-count, flags-known, build}
+use Rattle.rules.specs.Encoding.{form_byte, statement_bytes, block_bytes}
+use Rattle.rules.specs.Forms.{forms, has_expression, has_block, has_second_block, par_count, flags_known, build}
 use Rattle.rules.specs.Outcomes.{refused_as, numbered}
-use Rattle.rules.specs.Reading.{most-statements, most-pars, parts_in, code-place, Counts, after-statement, before-first, before-second, block-thread, within-limits, set-right, expression-of, Head, Reads, read_head, read-statement, read-statements, read-block}
-use Rattle.rules.specs.Text.{Expression, Stmt, Block, end, count_of, count, pars-of, pars, depth, inner-depth}
-use Rattle.rules.specs.Valid.{Right-expression, Right-statement, Right-block}
+use Rattle.rules.specs.Reading.{most_statements, most_pars, parts_in, place_of_code, Counts, after_statement, before_first, before_second, block_thread, within_limits, set_right, expression_of, Head, Reads, read_head, read_statement, read_statements, read_block}
+use Rattle.rules.specs.Text.{Expression, Stmt, Block, end, count_of, count, pars_of, pars, depth, inner_depth}
+use Rattle.rules.specs.Valid.{RightExpression, RightStatement, RightBlock}
 use Rattle.rules.specs.declared.program.Form.{Form}
 use Rattle.rules.specs.declared.program.Form.TheVariants.{Nothing, Set, Pause, If, Loop, Par, Abort}
 use Rattle.rules.specs.Variables.{Variable}
-use Rattle.loading.proofs.Expressions.{expression-from}
+use Rattle.loading.proofs.Expressions.{expression_from}
 use Rattle.loading.proofs.Numbers.{Bytes}
 use Rattle.loading.proofs.Parts.{joined, Parted, parts_from}
-use Rattle.loading.proofs.Results.{bind_inv, some_then, ensure-then, refused-inv, same_ok, numbered-from, no_way, no-way'}
-use Rattle.loading.proofs.Shapes.{Shaped, bytes-by-form, counted, some_bytes}
+use Rattle.loading.proofs.Results.{bind_inv, some_then, ensure_then, refused_inv, same_ok, numbered_from, no_way, no_way'}
+use Rattle.loading.proofs.Shapes.{Shaped, bytes_by_form, counted, some_bytes}
 
 ---------------------------------------------------------------------- a statement before its blocks
 
 -- An expression that is read where the form has one is right, and was written so; elsewhere there is none.
-expression-of-from : (ds : List Variable) (t from at : ℕ) (b : Bool) (bs : List ℕ) (e : Expression) → Bytes bs → (b ≡ false → bs ≡ []) → expression-of ds t from at b bs ≡ Ok e → (b ≡ false → e ≡ []) × (b ≡ true → Right-expression ds t e) × (written e ≡ bs)
-expression-of-from ds t from at false bs e h none r = let is = same_ok r in (λ _. sym is, no_way, ap written (sym is) ∙ sym (none refl))
-expression-of-from ds t from at true bs e h none r = let f = expression-from ds t from at bs e h r in (no-way', λ _. f.0, f.1)
+expression_of_from : (ds : List Variable) (t from at : ℕ) (b : Bool) (bs : List ℕ) (e : Expression) → Bytes bs → (b ≡ false → bs ≡ []) → expression_of ds t from at b bs ≡ Ok e → (b ≡ false → e ≡ []) × (b ≡ true → RightExpression ds t e) × (written e ≡ bs)
+expression_of_from ds t from at false bs e h none r = let is = same_ok r in (λ _. sym is, no_way, ap written (sym is) ∙ sym (none refl))
+expression_of_from ds t from at true bs e h none r = let f = expression_from ds t from at bs e h r in (no_way', λ _. f.0, f.1)
 
 -- What the test of limits tells.
-limits-from : (n : ℕ) (k : Form) (a : Counts) → within-limits n k a ≡ true → (a.statements < most-statements) × (a.pars + par-count k ≤ most-pars) × (has_block k ≡ true → 0 < n)
-limits-from n k a h =
+limits_from : (n : ℕ) (k : Form) (a : Counts) → within_limits n k a ≡ true → (a.statements < most_statements) × (a.pars + par_count k ≤ most_pars) × (has_block k ≡ true → 0 < n)
+limits_from n k a h =
     let u = and_parts _ _ h in let v = and_parts _ _ u.1 in
     (ltb-true _ _ u.0, leb-true _ _ v.0, room (has_block k) v.1) where
       room : (b : Bool) → (not b || ltb 0 n) ≡ true → b ≡ true → 0 < n
@@ -36,31 +36,31 @@ limits-from n k a h =
 module _ (ds : List Variable) (n t : ℕ) (a : Counts) (p c : ℕ) (bs : List ℕ) where
   -- What reading tells of a statement before its blocks.
   record Headed (h : Head) : Type 0 where
-    known : form-byte h.form ≡ c
-    limited : (a.statements < most-statements) × (a.pars + par-count h.form ≤ most-pars) × (has_block h.form ≡ true → 0 < n)
+    known : form_byte h.form ≡ c
+    limited : (a.statements < most_statements) × (a.pars + par_count h.form ≤ most_pars) × (has_block h.form ≡ true → 0 < n)
     parted : Parted h.form bs h.parts
-    flagged : flags-known h.form h.parts.byte ≡ true
-    named : set-right ds t h.form h.parts.byte ≡ true
-    no_code : has-expression h.form ≡ false → h.expression ≡ []
-    right : has-expression h.form ≡ true → Right-expression ds t h.expression
+    flagged : flags_known h.form h.parts.byte ≡ true
+    named : set_right ds t h.form h.parts.byte ≡ true
+    no_code : has_expression h.form ≡ false → h.expression ≡ []
+    right : has_expression h.form ≡ true → RightExpression ds t h.expression
     code : written h.expression ≡ h.parts.code
 
   -- A statement before its blocks that is read tells this.
-  head-from : (h : Head) → Bytes bs → read_head ds n t a p c bs ≡ Ok h → Headed h
-  head-from h bytes z =
-      let z0 = some_then (numbered form-byte forms c) _ _ h z in
+  head_from : (h : Head) → Bytes bs → read_head ds n t a p c bs ≡ Ok h → Headed h
+  head_from h bytes z =
+      let z0 = some_then (numbered form_byte forms c) _ _ h z in
       let k = z0.0 in
-      let z1 = ensure-then (within-limits n k a) _ _ h z0.2 in
+      let z1 = ensure_then (within_limits n k a) _ _ h z0.2 in
       let z2 = bind_inv (refused_as _ (parts_in p k bs)) _ h z1.1 in
       let o = z2.0 in
-      let z3 = ensure-then (flags-known k o.byte) _ _ h z2.2 in
-      let z4 = ensure-then (set-right ds t k o.byte) _ _ h z3.1 in
-      let z5 = bind_inv (expression-of ds t (code-place k p) p (has-expression k) o.code) _ h z4.1 in
-      let parted = parts_from p k bs o bytes (refused-inv _ (parts_in p k bs) o z2.1) in
-      let e = expression-of-from ds t (code-place k p) p (has-expression k) o.code z5.0 parted.code-bytes parted.fitting.no_code z5.1 in
+      let z3 = ensure_then (flags_known k o.byte) _ _ h z2.2 in
+      let z4 = ensure_then (set_right ds t k o.byte) _ _ h z3.1 in
+      let z5 = bind_inv (expression_of ds t (place_of_code k p) p (has_expression k) o.code) _ h z4.1 in
+      let parted = parts_from p k bs o bytes (refused_inv _ (parts_in p k bs) o z2.1) in
+      let e = expression_of_from ds t (place_of_code k p) p (has_expression k) o.code z5.0 parted.code_bytes parted.fitting.no_code z5.1 in
       subst Headed {x = record { form = k; parts = o; expression = z5.0 }} (same_ok z5.2) (record {
-        known = numbered-from form-byte forms c k z0.1;
-        limited = limits-from n k a z1.0;
+        known = numbered_from form_byte forms c k z0.1;
+        limited = limits_from n k a z1.0;
         parted = parted;
         flagged = z3.0;
         named = z4.0;
@@ -73,153 +73,153 @@ module _ (ds : List Variable) (n t : ℕ) (a : Counts) (p c : ℕ) (bs : List �
 
 -- What reading tells of a block of thread t after the counts a, with n nested blocks allowed.
 pub record Came (ds : List Variable) (n t : ℕ) (a : Counts) (bs : List ℕ) (B : Block (Unit {0})) : Type 0 where
-  pub same : block-bytes B ≡ bs
-  pub few : a.statements + count B ≤ most-statements
-  pub few-pars : a.pars + pars B ≤ most-pars
+  pub same : block_bytes B ≡ bs
+  pub few : a.statements + count B ≤ most_statements
+  pub few_pars : a.pars + pars B ≤ most_pars
   pub shallow : depth B ≤ n
-  pub right : Right-block ds t a.threads B
+  pub right : RightBlock ds t a.threads B
 
 -- What is known of how inner blocks are read.
 record Deeper (ds : List Variable) (n : ℕ) (deeper : Reads) : Type 0 where
   of_none : (t : ℕ) (a : Counts) (z : ℕ) → deeper t a z [] ≡ Ok end
-  of_some : (t : ℕ) (a : Counts) (z : ℕ) (bs : List ℕ) (B : Block (Unit {0})) → 0 < n → Bytes bs → a.statements ≤ most-statements → a.pars ≤ most-pars → deeper t a z bs ≡ Ok B → Came ds n t a bs B
+  of_some : (t : ℕ) (a : Counts) (z : ℕ) (bs : List ℕ) (B : Block (Unit {0})) → 0 < n → Bytes bs → a.statements ≤ most_statements → a.pars ≤ most_pars → deeper t a z bs ≡ Ok B → Came ds n t a bs B
 
 -- What reading tells of an inner block, or of none where the form has none.
 record Inner (ds : List Variable) (n : ℕ) (b : Bool) (t : ℕ) (a : Counts) (bs : List ℕ) (B : Block (Unit {0})) : Type 0 where
-  same : block-bytes B ≡ bs
-  few : a.statements + count B ≤ most-statements
-  few-pars : a.pars + pars B ≤ most-pars
+  same : block_bytes B ≡ bs
+  few : a.statements + count B ≤ most_statements
+  few_pars : a.pars + pars B ≤ most_pars
   none : b ≡ false → B ≡ end
   shallow : b ≡ true → depth B ≤ n
-  right : b ≡ true → Right-block ds t a.threads B
+  right : b ≡ true → RightBlock ds t a.threads B
 
 -- An inner block that is read tells this.
-inner-from : (ds : List Variable) (n : ℕ) (deeper : Reads) (b : Bool) (t : ℕ) (a : Counts) (z : ℕ) (bs : List ℕ) (B : Block (Unit {0})) → Deeper ds n deeper → (b ≡ true → 0 < n) → (b ≡ false → bs ≡ []) → Bytes bs → a.statements ≤ most-statements → a.pars ≤ most-pars → deeper t a z bs ≡ Ok B → Inner ds n b t a bs B
-inner-from ds n deeper true t a z bs B D some none h p q r =
+inner_from : (ds : List Variable) (n : ℕ) (deeper : Reads) (b : Bool) (t : ℕ) (a : Counts) (z : ℕ) (bs : List ℕ) (B : Block (Unit {0})) → Deeper ds n deeper → (b ≡ true → 0 < n) → (b ≡ false → bs ≡ []) → Bytes bs → a.statements ≤ most_statements → a.pars ≤ most_pars → deeper t a z bs ≡ Ok B → Inner ds n b t a bs B
+inner_from ds n deeper true t a z bs B D some none h p q r =
     let c = D.of_some t a z bs B (some refl) h p q r in
-    record { same = c.same; few = c.few; few-pars = c.few-pars; none = no-way'; shallow = λ _. c.shallow; right = λ _. c.right }
-inner-from ds n deeper false t a z bs B D some none h p q r =
+    record { same = c.same; few = c.few; few_pars = c.few_pars; none = no_way'; shallow = λ _. c.shallow; right = λ _. c.right }
+inner_from ds n deeper false t a z bs B D some none h p q r =
     let is : end ≡ B = same_ok (sym (D.of_none t a z) ∙ ap (deeper t a z) (sym (none refl)) ∙ r) in
     record {
-      same = ap block-bytes (sym is) ∙ sym (none refl);
-      few = subst (λ C. a.statements + count C ≤ most-statements) is (omega arith);
-      few-pars = subst (λ C. a.pars + pars C ≤ most-pars) is (omega arith);
+      same = ap block_bytes (sym is) ∙ sym (none refl);
+      few = subst (λ C. a.statements + count C ≤ most_statements) is (omega arith);
+      few_pars = subst (λ C. a.pars + pars C ≤ most_pars) is (omega arith);
       none = λ _. sym is;
       shallow = no_way;
       right = no_way;
     }
 
 -- What reading tells of a statement and of the bytes after it.
-record Came-first (ds : List Variable) (n t : ℕ) (a : Counts) (c : ℕ) (bs : List ℕ) (s : Stmt (Unit {0})) (after : List ℕ) : Type 0 where
-  same : statement-bytes s ++ after ≡ c ∷ bs
+record CameFirst (ds : List Variable) (n t : ℕ) (a : Counts) (c : ℕ) (bs : List ℕ) (s : Stmt (Unit {0})) (after : List ℕ) : Type 0 where
+  same : statement_bytes s ++ after ≡ c ∷ bs
   bytes : Bytes after
-  few : a.statements + count_of s ≤ most-statements
-  few-pars : a.pars + pars-of s ≤ most-pars
-  shallow : inner-depth s ≤ n
-  right : Right-statement ds t a.threads s
+  few : a.statements + count_of s ≤ most_statements
+  few_pars : a.pars + pars_of s ≤ most_pars
+  shallow : inner_depth s ≤ n
+  right : RightStatement ds t a.threads s
 
 -- A block that is right is so for an equal thread and an equal number of the next arm.
-at : (ds : List Variable) (t t' u u' : ℕ) (B : Block (Unit {0})) → t ≡ t' → u ≡ u' → Right-block ds t u B → Right-block ds t' u' B
-at ds t t' u u' B p q h = subst (λ k. Right-block ds k u' B) p (subst (λ k. Right-block ds t k B) q h)
+at : (ds : List Variable) (t t' u u' : ℕ) (B : Block (Unit {0})) → t ≡ t' → u ≡ u' → RightBlock ds t u B → RightBlock ds t' u' B
+at ds t t' u u' B p q h = subst (λ k. RightBlock ds k u' B) p (subst (λ k. RightBlock ds t k B) q h)
 
 -- A form that has a second block has a first.
-second-has-first : (k : Form) → has-second-block k ≡ true → has_block k ≡ true
-second-has-first Nothing e = e
-second-has-first Set e = e
-second-has-first Pause e = e
-second-has-first If e = refl
-second-has-first Loop e = refl
-second-has-first Par e = refl
-second-has-first Abort e = refl
+second_has_first : (k : Form) → has_second_block k ≡ true → has_block k ≡ true
+second_has_first Nothing e = e
+second_has_first Set e = e
+second_has_first Pause e = e
+second_has_first If e = refl
+second_has_first Loop e = refl
+second_has_first Par e = refl
+second_has_first Abort e = refl
 
 module _ (ds : List Variable) (n t : ℕ) (a : Counts) (X Y : Block (Unit {0})) where
   -- What is known of the first and of the second block of a statement.
   abbrev First : Form → List ℕ → Type 0
-  First k bs = Inner ds n (has_block k) (block-thread k t (before-first k a).threads) (before-first k a) bs X
+  First k bs = Inner ds n (has_block k) (block_thread k t (before_first k a).threads) (before_first k a) bs X
 
   abbrev Second : Form → List ℕ → Type 0
-  Second k bs = Inner ds n (has-second-block k) (block-thread k t (before-second k X a).threads) (before-second k X a) bs Y
+  Second k bs = Inner ds n (has_second_block k) (block_thread k t (before_second k X a).threads) (before_second k X a) bs Y
 
   module _ (o : ℕ) (e : Expression) (bs cs : List ℕ) where
     -- The statement is no deeper than its blocks may be.
-    shallow-by-form : (k : Form) → First k bs → Second k cs → inner-depth (build k o e X Y) ≤ n
-    shallow-by-form Nothing f g = omega arith
-    shallow-by-form Set f g = omega arith
-    shallow-by-form Pause f g = omega arith
-    shallow-by-form If f g = let p = f.shallow refl in let q = g.shallow refl in omega arith
-    shallow-by-form Loop f g = f.shallow refl
-    shallow-by-form Par f g = let p = f.shallow refl in let q = g.shallow refl in omega arith
-    shallow-by-form Abort f g = f.shallow refl
+    shallow_by_form : (k : Form) → First k bs → Second k cs → inner_depth (build k o e X Y) ≤ n
+    shallow_by_form Nothing f g = omega arith
+    shallow_by_form Set f g = omega arith
+    shallow_by_form Pause f g = omega arith
+    shallow_by_form If f g = let p = f.shallow refl in let q = g.shallow refl in omega arith
+    shallow_by_form Loop f g = f.shallow refl
+    shallow_by_form Par f g = let p = f.shallow refl in let q = g.shallow refl in omega arith
+    shallow_by_form Abort f g = f.shallow refl
 
     -- The statement is right if its byte, its expression and its blocks are.
-    right-by-form : (k : Form) → o < 256 → set-right ds t k o ≡ true → (has-expression k ≡ true → Right-expression ds t e) → First k bs → Second k cs → Right-statement ds t a.threads (build k o e X Y)
-    right-by-form Nothing s v r f g = tt
-    right-by-form Set s v r f g = (v, r refl)
-    right-by-form Pause s v r f g = tt
-    right-by-form If s v r f g = (r refl, at ds t t _ _ X refl (omega arith) (f.right refl), at ds t t _ _ Y refl (omega arith) (g.right refl))
-    right-by-form Loop s v r f g = (s, r refl, at ds t t _ _ X refl (omega arith) (f.right refl))
-    right-by-form Par s v r f g = (at ds _ _ _ _ X (omega arith) refl (f.right refl), at ds _ _ _ _ Y (omega arith) (omega arith) (g.right refl))
-    right-by-form Abort s v r f g = (r refl, at ds t t _ _ X refl (omega arith) (f.right refl))
+    right_by_form : (k : Form) → o < 256 → set_right ds t k o ≡ true → (has_expression k ≡ true → RightExpression ds t e) → First k bs → Second k cs → RightStatement ds t a.threads (build k o e X Y)
+    right_by_form Nothing s v r f g = tt
+    right_by_form Set s v r f g = (v, r refl)
+    right_by_form Pause s v r f g = tt
+    right_by_form If s v r f g = (r refl, at ds t t _ _ X refl (omega arith) (f.right refl), at ds t t _ _ Y refl (omega arith) (g.right refl))
+    right_by_form Loop s v r f g = (s, r refl, at ds t t _ _ X refl (omega arith) (f.right refl))
+    right_by_form Par s v r f g = (at ds _ _ _ _ X (omega arith) refl (f.right refl), at ds _ _ _ _ Y (omega arith) (omega arith) (g.right refl))
+    right_by_form Abort s v r f g = (r refl, at ds t t _ _ X refl (omega arith) (f.right refl))
 
   -- From what is known of a statement before its blocks, and of its blocks.
   concluded : (p c : ℕ) (bs : List ℕ) (h : Head) → Headed ds n t a p c bs h → First h.form h.parts.first → Second h.form h.parts.second →
-      Came-first ds n t a c bs (build h.form h.parts.byte h.expression X Y) h.parts.after
+      CameFirst ds n t a c bs (build h.form h.parts.byte h.expression X Y) h.parts.after
   concluded p c bs h H X' Y' =
       let k = h.form in let o = h.parts in let e = h.expression in
       let shaped : Shaped o.byte e X Y k = record { no_byte = H.parted.fitting.no_byte; no_code = H.no_code; no_block = X'.none; no_second = Y'.none } in
-      let few : a.statements + 1 + count X + count Y ≤ most-statements = Y'.few in
-      let few-pars : a.pars + par-count k + pars X + pars Y ≤ most-pars = Y'.few-pars in
+      let few : a.statements + 1 + count X + count Y ≤ most_statements = Y'.few in
+      let few_pars : a.pars + par_count k + pars X + pars Y ≤ most_pars = Y'.few_pars in
       let counts = counted o.byte e X Y k shaped in
       record {
         same =
-            bytes-by-form o.byte e X Y k o.after shaped H.flagged
+            bytes_by_form o.byte e X Y k o.after shaped H.flagged
             ∙ (λ i. H.known i ∷ joined k (record { byte = o.byte; code = H.code i; first = X'.same i; second = Y'.same i; after = o.after }))
             ∙ ap (λ l. c ∷ l) H.parted.same;
-        bytes = H.parted.after-bytes;
+        bytes = H.parted.after_bytes;
         few = omega arith;
-        few-pars = omega arith;
-        shallow = shallow-by-form o.byte e o.first o.second k X' Y';
-        right = right-by-form o.byte e o.first o.second k H.parted.byte_small H.named H.right X' Y';
+        few_pars = omega arith;
+        shallow = shallow_by_form o.byte e o.first o.second k X' Y';
+        right = right_by_form o.byte e o.first o.second k H.parted.byte_small H.named H.right X' Y';
       }
 
 module _ (ds : List Variable) (n : ℕ) (deeper : Reads) (D : Deeper ds n deeper) (t : ℕ) where
   -- A statement that is read was written so, and keeps the rules.
-  statement-from : (a : Counts) (z c : ℕ) (bs : List ℕ) (r : Stmt (Unit {0}) × List ℕ) → Bytes bs → read-statement ds n deeper t a z c bs ≡ Ok r → Came-first ds n t a c bs r.0 r.1
-  statement-from a z c bs r bytes y =
+  statement_from : (a : Counts) (z c : ℕ) (bs : List ℕ) (r : Stmt (Unit {0}) × List ℕ) → Bytes bs → read_statement ds n deeper t a z c bs ≡ Ok r → CameFirst ds n t a c bs r.0 r.1
+  statement_from a z c bs r bytes y =
       let p = z - suc (length bs) in
       let y0 = bind_inv (refused_as _ (read_head ds n t a p c bs)) _ r y in
       let h = y0.0 in
-      let H = head-from ds n t a p c bs h bytes (refused-inv _ (read_head ds n t a p c bs) h y0.1) in
+      let H = head_from ds n t a p c bs h bytes (refused_inv _ (read_head ds n t a p c bs) h y0.1) in
       let k = h.form in let o = h.parts in
-      let lt : a.statements < most-statements = H.limited.0 in
-      let one : a.statements + 1 ≤ most-statements = omega arith in
-      let y1 = bind_inv (deeper (block-thread k t (before-first k a).threads) (before-first k a) (z - length o.after - length o.second) o.first) _ r y0.2 in
+      let lt : a.statements < most_statements = H.limited.0 in
+      let one : a.statements + 1 ≤ most_statements = omega arith in
+      let y1 = bind_inv (deeper (block_thread k t (before_first k a).threads) (before_first k a) (z - length o.after - length o.second) o.first) _ r y0.2 in
       let X = y1.0 in
-      let X' = inner-from ds n deeper (has_block k) (block-thread k t (before-first k a).threads) (before-first k a) _ o.first X D H.limited.2 H.parted.fitting.no_block H.parted.first-bytes one H.limited.1 y1.1 in
-      let y2 = bind_inv (deeper (block-thread k t (before-second k X a).threads) (before-second k X a) (z - length o.after) o.second) _ r y1.2 in
+      let X' = inner_from ds n deeper (has_block k) (block_thread k t (before_first k a).threads) (before_first k a) _ o.first X D H.limited.2 H.parted.fitting.no_block H.parted.first_bytes one H.limited.1 y1.1 in
+      let y2 = bind_inv (deeper (block_thread k t (before_second k X a).threads) (before_second k X a) (z - length o.after) o.second) _ r y1.2 in
       let Y = y2.0 in
-      let Y' = inner-from ds n deeper (has-second-block k) (block-thread k t (before-second k X a).threads) (before-second k X a) _ o.second Y D (λ q. H.limited.2 (second-has-first k q)) H.parted.fitting.no_second H.parted.second-bytes X'.few X'.few-pars y2.1 in
-      let P : Stmt (Unit {0}) × List ℕ → Type 0 = λ q. Came-first ds n t a c bs q.0 q.1 in
+      let Y' = inner_from ds n deeper (has_second_block k) (block_thread k t (before_second k X a).threads) (before_second k X a) _ o.second Y D (λ q. H.limited.2 (second_has_first k q)) H.parted.fitting.no_second H.parted.second_bytes X'.few X'.few_pars y2.1 in
+      let P : Stmt (Unit {0}) × List ℕ → Type 0 = λ q. CameFirst ds n t a c bs q.0 q.1 in
       subst P (same_ok y2.2) (concluded ds n t a X Y p c bs h H X' Y')
 
   -- Statements that are read to the end of a block were written so, and keep the rules.
-  statements-from : (f : ℕ) (a : Counts) (z : ℕ) (bs : List ℕ) (B : Block (Unit {0})) → Bytes bs → length bs ≤ f → a.statements ≤ most-statements → a.pars ≤ most-pars → read-statements ds n deeper t f a z bs ≡ Ok B → Came ds (suc n) t a bs B
-  statements-from f a z [] B h long p q r = subst (Came ds (suc n) t a []) (same_ok r) (record { same = refl; few = omega arith; few-pars = omega arith; shallow = omega arith; right = tt })
-  statements-from zero a z (c ∷ bs) B h long p q r = absurd (omega arith)
-  statements-from (suc f) a z (c ∷ bs) B h long p q r =
-      let y0 = bind_inv (read-statement ds n deeper t a z c bs) _ B r in
+  statements_from : (f : ℕ) (a : Counts) (z : ℕ) (bs : List ℕ) (B : Block (Unit {0})) → Bytes bs → length bs ≤ f → a.statements ≤ most_statements → a.pars ≤ most_pars → read_statements ds n deeper t f a z bs ≡ Ok B → Came ds (suc n) t a bs B
+  statements_from f a z [] B h long p q r = subst (Came ds (suc n) t a []) (same_ok r) (record { same = refl; few = omega arith; few_pars = omega arith; shallow = omega arith; right = tt })
+  statements_from zero a z (c ∷ bs) B h long p q r = absurd (omega arith)
+  statements_from (suc f) a z (c ∷ bs) B h long p q r =
+      let y0 = bind_inv (read_statement ds n deeper t a z c bs) _ B r in
       let s = y0.0.0 in let after = y0.0.1 in
-      let S = statement-from a z c bs y0.0 h.1 y0.1 in
-      let l0 = ap length S.same in let l1 = length-append (statement-bytes s) after in let l2 = some_bytes s in
-      let y1 = bind_inv (read-statements ds n deeper t f (after-statement s a) z after) _ B y0.2 in
-      let R = statements-from f (after-statement s a) z after y1.0 S.bytes (omega arith) S.few S.few-pars y1.1 in
-      let few : a.statements + count_of s + count y1.0 ≤ most-statements = R.few in
-      let few-pars : a.pars + pars-of s + pars y1.0 ≤ most-pars = R.few-pars in
+      let S = statement_from a z c bs y0.0 h.1 y0.1 in
+      let l0 = ap length S.same in let l1 = length-append (statement_bytes s) after in let l2 = some_bytes s in
+      let y1 = bind_inv (read_statements ds n deeper t f (after_statement s a) z after) _ B y0.2 in
+      let R = statements_from f (after_statement s a) z after y1.0 S.bytes (omega arith) S.few S.few_pars y1.1 in
+      let few : a.statements + count_of s + count y1.0 ≤ most_statements = R.few in
+      let few_pars : a.pars + pars_of s + pars y1.0 ≤ most_pars = R.few_pars in
       let s0 = S.shallow in let s1 = R.shallow in
       subst (Came ds (suc n) t a (c ∷ bs)) (same_ok y1.2) (record {
-        same = ap (λ l. statement-bytes s ++ l) R.same ∙ S.same;
+        same = ap (λ l. statement_bytes s ++ l) R.same ∙ S.same;
         few = omega arith;
-        few-pars = omega arith;
+        few_pars = omega arith;
         shallow = omega arith;
         right = (S.right, R.right);
       })
@@ -227,68 +227,68 @@ module _ (ds : List Variable) (n : ℕ) (deeper : Reads) (D : Deeper ds n deeper
 ---------------------------------------------------------------------- blocks
 
 -- How inner blocks are read, at each allowed nesting.
-deeper-than : (ds : List Variable) (n : ℕ) → Deeper ds n (read-block ds n)
-deeper-than ds zero = record { of_none = λ t a z. refl; of_some = λ t a z bs B some. absurd (omega arith) }
-deeper-than ds (suc n) = record {
+deeper_than : (ds : List Variable) (n : ℕ) → Deeper ds n (read_block ds n)
+deeper_than ds zero = record { of_none = λ t a z. refl; of_some = λ t a z bs B some. absurd (omega arith) }
+deeper_than ds (suc n) = record {
   of_none = λ t a z. refl;
-  of_some = λ t a z bs B some h p q r. statements-from ds n (read-block ds n) (deeper-than ds n) t (length bs) a z bs B h (omega arith) p q r;
+  of_some = λ t a z bs B some h p q r. statements_from ds n (read_block ds n) (deeper_than ds n) t (length bs) a z bs B h (omega arith) p q r;
 }
 
 -- A block that is read was written so, and keeps the rules.
-pub block-from : (ds : List Variable) (n t : ℕ) (a : Counts) (z : ℕ) (bs : List ℕ) (B : Block (Unit {0})) → 0 < n → Bytes bs → a.statements ≤ most-statements → a.pars ≤ most-pars → read-block ds n t a z bs ≡ Ok B → Came ds n t a bs B
-block-from ds n t a z bs B = (deeper-than ds n).of_some t a z bs B
+pub block_from : (ds : List Variable) (n t : ℕ) (a : Counts) (z : ℕ) (bs : List ℕ) (B : Block (Unit {0})) → 0 < n → Bytes bs → a.statements ≤ most_statements → a.pars ≤ most_pars → read_block ds n t a z bs ≡ Ok B → Came ds n t a bs B
+block_from ds n t a z bs B = (deeper_than ds n).of_some t a z bs B
 
 ---------------------------------------------------------------------- what a statement was read from
 
 -- A statement that was read: its head, its blocks, how each was read, and the bytes that each is written as.
-pub record Statement-came (ds : List Variable) (n t : ℕ) (a : Counts) (z c : ℕ) (bs : List ℕ) (r : Stmt (Unit {0}) × List ℕ) : Type 0 where
+pub record StatementCame (ds : List Variable) (n t : ℕ) (a : Counts) (z c : ℕ) (bs : List ℕ) (r : Stmt (Unit {0}) × List ℕ) : Type 0 where
   pub head : Head
   pub first : Block (Unit {0})
   pub second : Block (Unit {0})
   pub head_read : read_head ds n t a (z - suc (length bs)) c bs ≡ Ok head
-  pub first_read : read-block ds n (block-thread head.form t (before-first head.form a).threads) (before-first head.form a) (z - length head.parts.after - length head.parts.second) head.parts.first ≡ Ok first
-  pub second-read : read-block ds n (block-thread head.form t (before-second head.form first a).threads) (before-second head.form first a) (z - length head.parts.after) head.parts.second ≡ Ok second
+  pub first_read : read_block ds n (block_thread head.form t (before_first head.form a).threads) (before_first head.form a) (z - length head.parts.after - length head.parts.second) head.parts.first ≡ Ok first
+  pub second_read : read_block ds n (block_thread head.form t (before_second head.form first a).threads) (before_second head.form first a) (z - length head.parts.after) head.parts.second ≡ Ok second
   pub is : r ≡ (build head.form head.parts.byte head.expression first second, head.parts.after)
-  pub same : statement-bytes r.0 ++ r.1 ≡ c ∷ bs
-  pub first-same : block-bytes first ≡ head.parts.first
-  pub second-same : block-bytes second ≡ head.parts.second
-  pub no-first : has_block head.form ≡ false → first ≡ end
-  pub no_second : has-second-block head.form ≡ false → second ≡ end
+  pub same : statement_bytes r.0 ++ r.1 ≡ c ∷ bs
+  pub first_same : block_bytes first ≡ head.parts.first
+  pub second_same : block_bytes second ≡ head.parts.second
+  pub no_first : has_block head.form ≡ false → first ≡ end
+  pub no_second : has_second_block head.form ≡ false → second ≡ end
   pub code_same : written head.expression ≡ head.parts.code
-  pub first-bytes : Bytes head.parts.first
-  pub second-bytes : Bytes head.parts.second
-  pub after-bytes : Bytes head.parts.after
+  pub first_bytes : Bytes head.parts.first
+  pub second_bytes : Bytes head.parts.second
+  pub after_bytes : Bytes head.parts.after
 
-pub statement-came : (ds : List Variable) (n t : ℕ) (a : Counts) (z c : ℕ) (bs : List ℕ) (r : Stmt (Unit {0}) × List ℕ) → Bytes bs → read-statement ds n (read-block ds n) t a z c bs ≡ Ok r → Statement-came ds n t a z c bs r
-statement-came ds n t a z c bs r bytes y =
-    let D = deeper-than ds n in
+pub statement_came : (ds : List Variable) (n t : ℕ) (a : Counts) (z c : ℕ) (bs : List ℕ) (r : Stmt (Unit {0}) × List ℕ) → Bytes bs → read_statement ds n (read_block ds n) t a z c bs ≡ Ok r → StatementCame ds n t a z c bs r
+statement_came ds n t a z c bs r bytes y =
+    let D = deeper_than ds n in
     let p = z - suc (length bs) in
     let y0 = bind_inv (refused_as _ (read_head ds n t a p c bs)) _ r y in
     let h = y0.0 in
-    let read = refused-inv _ (read_head ds n t a p c bs) h y0.1 in
-    let H = head-from ds n t a p c bs h bytes read in
+    let read = refused_inv _ (read_head ds n t a p c bs) h y0.1 in
+    let H = head_from ds n t a p c bs h bytes read in
     let k = h.form in let o = h.parts in
-    let lt : a.statements < most-statements = H.limited.0 in
-    let one : a.statements + 1 ≤ most-statements = omega arith in
-    let y1 = bind_inv (read-block ds n (block-thread k t (before-first k a).threads) (before-first k a) (z - length o.after - length o.second) o.first) _ r y0.2 in
-    let X' = inner-from ds n (read-block ds n) (has_block k) (block-thread k t (before-first k a).threads) (before-first k a) _ o.first y1.0 D H.limited.2 H.parted.fitting.no_block H.parted.first-bytes one H.limited.1 y1.1 in
-    let y2 = bind_inv (read-block ds n (block-thread k t (before-second k y1.0 a).threads) (before-second k y1.0 a) (z - length o.after) o.second) _ r y1.2 in
-    let Y' = inner-from ds n (read-block ds n) (has-second-block k) (block-thread k t (before-second k y1.0 a).threads) (before-second k y1.0 a) _ o.second y2.0 D (λ q. H.limited.2 (second-has-first k q)) H.parted.fitting.no_second H.parted.second-bytes X'.few X'.few-pars y2.1 in
+    let lt : a.statements < most_statements = H.limited.0 in
+    let one : a.statements + 1 ≤ most_statements = omega arith in
+    let y1 = bind_inv (read_block ds n (block_thread k t (before_first k a).threads) (before_first k a) (z - length o.after - length o.second) o.first) _ r y0.2 in
+    let X' = inner_from ds n (read_block ds n) (has_block k) (block_thread k t (before_first k a).threads) (before_first k a) _ o.first y1.0 D H.limited.2 H.parted.fitting.no_block H.parted.first_bytes one H.limited.1 y1.1 in
+    let y2 = bind_inv (read_block ds n (block_thread k t (before_second k y1.0 a).threads) (before_second k y1.0 a) (z - length o.after) o.second) _ r y1.2 in
+    let Y' = inner_from ds n (read_block ds n) (has_second_block k) (block_thread k t (before_second k y1.0 a).threads) (before_second k y1.0 a) _ o.second y2.0 D (λ q. H.limited.2 (second_has_first k q)) H.parted.fitting.no_second H.parted.second_bytes X'.few X'.few_pars y2.1 in
     record {
       head = h;
       first = y1.0;
       second = y2.0;
       head_read = read;
       first_read = y1.1;
-      second-read = y2.1;
+      second_read = y2.1;
       is = sym (same_ok y2.2);
-      same = (statement-from ds n (read-block ds n) D t a z c bs r bytes y).same;
-      first-same = X'.same;
-      second-same = Y'.same;
-      no-first = X'.none;
+      same = (statement_from ds n (read_block ds n) D t a z c bs r bytes y).same;
+      first_same = X'.same;
+      second_same = Y'.same;
+      no_first = X'.none;
       no_second = Y'.none;
       code_same = H.code;
-      first-bytes = H.parted.first-bytes;
-      second-bytes = H.parted.second-bytes;
-      after-bytes = H.parted.after-bytes;
+      first_bytes = H.parted.first_bytes;
+      second_bytes = H.parted.second_bytes;
+      after_bytes = H.parted.after_bytes;
     }

@@ -5,22 +5,22 @@ use Rattle.std.proofs.lemmas.List.{take_rest}
 use Rattle.std.proofs.lemmas.Bool.{le-leb, and_from}
 use Rattle.evaluator.specs.Outcomes.{mapped}
 use Rattle.rules.specs.Outcomes.{◌>>=◌}
-use Rattle.rules.specs.Reading.{Counts, start, read-block, loops-pause}
+use Rattle.rules.specs.Reading.{Counts, start, read_block, loops_pause}
 use Rattle.rules.specs.Text.{Block}
 use Rattle.rules.specs.Variables.{Variable}
 use Rattle.rules.specs.declared.faults.LoadFault.{LoadFault}
 use Rattle.heads.specs.Counting.{counted, kept}
-use Rattle.heads.specs.Readers.{bytes-between, left-of}
+use Rattle.heads.specs.Readers.{bytes_between, left_of}
 use Rattle.heads.specs.declared.counts.Counts.{Counts as Kept}
 use Rattle.heads.specs.declared.reader.Reader.{Reader}
-use Rattle.heads.proofs.Binding.{bind_ok, ensure-ok, mapped-ok, mapped-err}
+use Rattle.heads.proofs.Binding.{bind_ok, ensure_ok, mapped_ok, mapped_err}
 use Rattle.reader.specs.Extents.{extent}
-use Rattle.reader.specs.Noting.{Block-noted}
-use Rattle.reader.specs.Summaries.{main-in, summary}
-use Rattle.reader.specs.Told.{after_block, sum-block}
+use Rattle.reader.specs.Noting.{BlockNoted}
+use Rattle.reader.specs.Summaries.{main_in, summary}
+use Rattle.reader.specs.Told.{after_block, sum_block}
 use Rattle.reader.specs.declared.extents.Extent.{Extent}
 use Rattle.reader.specs.declared.survey.Survey.{Survey}
-use Rattle.reader.proofs.Notes.{at-noted}
+use Rattle.reader.proofs.Notes.{at_noted}
 use Rattle.reader.proofs.Ways.{at_block}
 
 -- Elements that fit 8 bits are bytes.
@@ -42,27 +42,27 @@ module _ (ds : List Variable) (k : ℕ) (bs : List ℕ) (few : length bs ≤ 409
   place_is : r.place ≡ k
   place_is = let e = end_is in omega arith
 
-  left_is : left-of r ≡ drop k bs
-  left_is = (λ i. bytes-between (r-program i) (place_is i) (end_is i)) ∙ take_rest bs k
+  left_is : left_of r ≡ drop k bs
+  left_is = (λ i. bytes_between (r-program i) (place_is i) (end_is i)) ∙ take_rest bs k
 
   -- The block, from the reader.
-  abbrev from-reader : Result (Block (Unit {0})) LoadFault
-  from-reader = read-block ds 16 0 start r.end (left-of r)
+  abbrev from_reader : Result (Block (Unit {0})) LoadFault
+  from_reader = read_block ds 16 0 start r.end (left_of r)
 
-  main-is : read-block ds 16 0 start (length bs) (drop k bs) ≡ main-in ds k bs
-  main-is = sym (bind_ok _ _ tt (ensure-ok _ (and_from _ _ (le-leb (length bs) 4096 few) (le-leb k (length bs) within))) refl)
+  main_is : read_block ds 16 0 start (length bs) (drop k bs) ≡ main_in ds k bs
+  main_is = sym (bind_ok _ _ tt (ensure_ok _ (and_from _ _ (le-leb (length bs) 4096 few) (le-leb k (length bs) within))) refl)
 
-  pub main-read : All (λ b. b < 256) bs → (x : Extent) (b : Kept) (S T : Survey) → S.pausing ≡ Ok tt → Ok (x, counted b) ≡ mapped (sum-block start) from-reader → Block-noted from-reader (left-of r) r.place 0 0 1 S T →
-      Ok (record { extent = x; counts = b; pausing = T.pausing }) ≡ mapped (summary k) (main-in ds k bs)
-  main-read bytes x b S T clear so noted =
-      let so' = at_block (sum-block start) ds 16 0 start r.end (length bs) (left-of r) (drop k bs) (Ok (x, counted b)) end_is left_is so in
-      let m = mapped-ok (sum-block start) (read-block ds 16 0 start (length bs) (drop k bs)) (x, counted b) so' in
-      let N = (at-noted ds 16 0 start r.end (length bs) (left-of r) (drop k bs) r.place k 0 0 1 S T end_is left_is place_is noted m.0 (bytes_after k bs bytes) m.1).pausing in
-      let v : T.pausing ≡ loops-pause k 0 0 1 m.0 = N ∙ ap (λ z. z >>= (λ _. loops-pause k 0 0 1 m.0)) clear in
+  pub main_read : All (λ b. b < 256) bs → (x : Extent) (b : Kept) (S T : Survey) → S.pausing ≡ Ok tt → Ok (x, counted b) ≡ mapped (sum_block start) from_reader → BlockNoted from_reader (left_of r) r.place 0 0 1 S T →
+      Ok (record { extent = x; counts = b; pausing = T.pausing }) ≡ mapped (summary k) (main_in ds k bs)
+  main_read bytes x b S T clear so noted =
+      let so' = at_block (sum_block start) ds 16 0 start r.end (length bs) (left_of r) (drop k bs) (Ok (x, counted b)) end_is left_is so in
+      let m = mapped_ok (sum_block start) (read_block ds 16 0 start (length bs) (drop k bs)) (x, counted b) so' in
+      let N = (at_noted ds 16 0 start r.end (length bs) (left_of r) (drop k bs) r.place k 0 0 1 S T end_is left_is place_is noted m.0 (bytes_after k bs bytes) m.1).pausing in
+      let v : T.pausing ≡ loops_pause k 0 0 1 m.0 = N ∙ ap (λ z. z >>= (λ _. loops_pause k 0 0 1 m.0)) clear in
       (λ i. Ok (record { extent = (sym m.2 i).0; counts = kept (sym m.2 i).1; pausing = v i }))
-      ∙ ap (mapped (summary k)) (sym m.1 ∙ main-is)
+      ∙ ap (mapped (summary k)) (sym m.1 ∙ main_is)
 
-  pub main-stopped : (g : LoadFault) → Err g ≡ mapped (sum-block start) from-reader → Err g ≡ mapped (summary k) (main-in ds k bs)
-  main-stopped g so =
-      let so' = at_block (sum-block start) ds 16 0 start r.end (length bs) (left-of r) (drop k bs) (Err g) end_is left_is so in
-      ap (mapped (summary k)) (sym (mapped-err (sum-block start) (read-block ds 16 0 start (length bs) (drop k bs)) g so') ∙ main-is)
+  pub main_stopped : (g : LoadFault) → Err g ≡ mapped (sum_block start) from_reader → Err g ≡ mapped (summary k) (main_in ds k bs)
+  main_stopped g so =
+      let so' = at_block (sum_block start) ds 16 0 start r.end (length bs) (left_of r) (drop k bs) (Err g) end_is left_is so in
+      ap (mapped (summary k)) (sym (mapped_err (sum_block start) (read_block ds 16 0 start (length bs) (drop k bs)) g so') ∙ main_is)

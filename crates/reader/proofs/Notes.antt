@@ -1,42 +1,42 @@
 -- A statement is noted by its blocks.
 use Rattle.std.proofs.Common.{◌≡◌, ℕ, suc, ◌+◌, ◌-◌, ◌*◌, ◌<◌, ◌≤◌, Bool, List, ◌∷◌, ◌++◌, length, Ok, Err, Result, sym, refl, ap, ◌∙◌, subst, arith, length-append}
 use Rattle.evaluator.specs.Outcomes.{mapped}
-use Rattle.rules.specs.Encoding.{statement-bytes, block-bytes}
-use Rattle.rules.specs.Forms.{par-count, build}
-use Rattle.rules.specs.Lengths.{must-pause}
+use Rattle.rules.specs.Encoding.{statement_bytes, block_bytes}
+use Rattle.rules.specs.Forms.{par_count, build}
+use Rattle.rules.specs.Lengths.{must_pause}
 use Rattle.rules.specs.Outcomes.{◌>>=◌}
-use Rattle.rules.specs.Reading.{Counts, Head as Headed, before-first, before-second, block-thread, read-statement, read-block, loops-pause, statement-pauses}
+use Rattle.rules.specs.Reading.{Counts, Head as Headed, before_first, before_second, block_thread, read_statement, read_block, loops_pause, statement_pauses}
 use Rattle.rules.specs.Text.{Stmt, Block, count, arms}
 use Rattle.rules.specs.Variables.{Variable}
 use Rattle.rules.specs.declared.faults.LoadFault.{LoadFault}
 use Rattle.rules.specs.declared.faults.LoadFault.TheVariants.{Statement}
 use Rattle.rules.specs.declared.faults.StatementFault.TheVariants.{MayNotPause}
 use Rattle.loading.proofs.Numbers.{Bytes}
-use Rattle.loading.proofs.Read.{Statement-came, statement-came}
-use Rattle.heads.specs.Seen.{Seen, seen-head}
+use Rattle.loading.proofs.Read.{StatementCame, statement_came}
+use Rattle.heads.specs.Seen.{Seen, seen_head}
 use Rattle.heads.specs.Sites.{head_at}
-use Rattle.heads.proofs.Binding.{refused-ok, same_ok}
+use Rattle.heads.proofs.Binding.{refused_ok, same_ok}
 use Rattle.reader.specs.Extents.{extent}
-use Rattle.reader.specs.Noting.{judged, Noted, Noted-one, Block-noted}
-use Rattle.reader.specs.Told.{after_block, sum-block}
+use Rattle.reader.specs.Noting.{judged, Noted, NotedOne, BlockNoted}
+use Rattle.reader.specs.Told.{after_block, sum_block}
 use Rattle.reader.specs.declared.extents.Extent.{Extent}
 use Rattle.reader.specs.declared.survey.Survey.{Survey}
-use Rattle.reader.proofs.Pauses.{noted-by-form}
+use Rattle.reader.proofs.Pauses.{noted_by_form}
 
 -- A block is noted by an end, bytes and a place that are the same.
-pub at-noted : (ds : List Variable) (m t : ℕ) (a : Counts) (e₁ e₂ : ℕ) (l₁ l₂ : List ℕ) (p₁ p₂ n s u : ℕ) (S T : Survey) → e₁ ≡ e₂ → l₁ ≡ l₂ → p₁ ≡ p₂ → Block-noted (read-block ds m t a e₁ l₁) l₁ p₁ n s u S T → Block-noted (read-block ds m t a e₂ l₂) l₂ p₂ n s u S T
-at-noted ds m t a e₁ e₂ l₁ l₂ p₁ p₂ n s u S T d l p h = subst (λ (z : ℕ × List ℕ × ℕ). Block-noted (read-block ds m t a z.0 z.1) z.1 z.2 n s u S T) {x = (e₁, l₁, p₁)} {y = (e₂, l₂, p₂)} (λ i. (d i, l i, p i)) h
+pub at_noted : (ds : List Variable) (m t : ℕ) (a : Counts) (e₁ e₂ : ℕ) (l₁ l₂ : List ℕ) (p₁ p₂ n s u : ℕ) (S T : Survey) → e₁ ≡ e₂ → l₁ ≡ l₂ → p₁ ≡ p₂ → BlockNoted (read_block ds m t a e₁ l₁) l₁ p₁ n s u S T → BlockNoted (read_block ds m t a e₂ l₂) l₂ p₂ n s u S T
+at_noted ds m t a e₁ e₂ l₁ l₂ p₁ p₂ n s u S T d l p h = subst (λ (z : ℕ × List ℕ × ℕ). BlockNoted (read_block ds m t a z.0 z.1) z.1 z.2 n s u S T) {x = (e₁, l₁, p₁)} {y = (e₂, l₂, p₂)} (λ i. (d i, l i, p i)) h
 
 -- The fault of a statement that is an idle loop.
-abbrev pub own-fault : (p n t : ℕ) → LoadFault
-own-fault p n t = Statement (MayNotPause p) (record { statement = n; thread = t })
+abbrev pub own_fault : (p n t : ℕ) → LoadFault
+own_fault p n t = Statement (MayNotPause p) (record { statement = n; thread = t })
 
-module _ (ds : List Variable) (n t : ℕ) (a : Counts) (e c : ℕ) (bs : List ℕ) (r : Stmt (Unit {0}) × List ℕ) (lt : length bs < e) (bytes : Bytes bs) (came : read-statement ds n (read-block ds n) t a e c bs ≡ Ok r) where
+module _ (ds : List Variable) (n t : ℕ) (a : Counts) (e c : ℕ) (bs : List ℕ) (r : Stmt (Unit {0}) × List ℕ) (lt : length bs < e) (bytes : Bytes bs) (came : read_statement ds n (read_block ds n) t a e c bs ≡ Ok r) where
   abbrev p : ℕ
   p = e - suc (length bs)
 
-  abbrev W : Statement-came ds n t a e c bs r
-  W = statement-came ds n t a e c bs r bytes came
+  abbrev W : StatementCame ds n t a e c bs r
+  W = statement_came ds n t a e c bs r bytes came
 
   abbrev begun : ℕ → Counts
   begun w = record { statements = a.statements + 1; pars = a.pars + w; threads = a.threads + w }
@@ -46,58 +46,58 @@ module _ (ds : List Variable) (n t : ℕ) (a : Counts) (e c : ℕ) (bs : List �
 
   -- What is known of a statement from its head, as the code sees it, and from how its blocks were read and noted.
   pub record Steps (q : Seen) (w t₁ t₂ m p₁ p₂ : ℕ) (x : Extent) (b : Counts) (S S' T T' U : Survey) : Type 0 where
-    pub w-is : w ≡ par-count q.form
-    pub t₁_is : t₁ ≡ block-thread q.form t (a.threads + w)
-    pub t₂_is : t₂ ≡ block-thread q.form t (b.threads + w)
-    pub m-is : m ≡ n
-    pub p₁-is : p₁ + (length q.first + length q.second + length q.after) ≡ e
-    pub p₂-is : p₂ ≡ p₁ + length q.first
-    pub after-command : p < p₁
-    pub x-read : Ok (x, b) ≡ mapped (sum-block (begun w)) (read-block ds n t₁ (begun w) (e - length q.after - length q.second) q.first)
-    pub x-noted : Block-noted (read-block ds n t₁ (begun w) (e - length q.after - length q.second) q.first) q.first p₁ (a.statements + 1) t₁ (a.threads + w) S' T
-    pub y-noted : Block-noted (read-block ds m t₂ (between w b) (e - length q.after) q.second) q.second p₂ b.statements t₂ (b.threads + w) T' U
-    pub same-before : S'.pausing ≡ S.pausing
-    pub same-between : T'.pausing ≡ T.pausing
+    pub w_is : w ≡ par_count q.form
+    pub t₁_is : t₁ ≡ block_thread q.form t (a.threads + w)
+    pub t₂_is : t₂ ≡ block_thread q.form t (b.threads + w)
+    pub m_is : m ≡ n
+    pub p₁_is : p₁ + (length q.first + length q.second + length q.after) ≡ e
+    pub p₂_is : p₂ ≡ p₁ + length q.first
+    pub after_command : p < p₁
+    pub x_read : Ok (x, b) ≡ mapped (sum_block (begun w)) (read_block ds n t₁ (begun w) (e - length q.after - length q.second) q.first)
+    pub x_noted : BlockNoted (read_block ds n t₁ (begun w) (e - length q.after - length q.second) q.first) q.first p₁ (a.statements + 1) t₁ (a.threads + w) S' T
+    pub y_noted : BlockNoted (read_block ds m t₂ (between w b) (e - length q.after) q.second) q.second p₂ b.statements t₂ (b.threads + w) T' U
+    pub same_before : S'.pausing ≡ S.pausing
+    pub same_between : T'.pausing ≡ T.pausing
 
   -- What the statement's own fault would be.
   abbrev own : LoadFault
-  own = own-fault p a.statements t
+  own = own_fault p a.statements t
 
-  by-head : (w t₁ t₂ m p₁ p₂ : ℕ) (x : Extent) (b : Counts) (S S' T T' U : Survey) → Steps (seen-head p W.head) w t₁ t₂ m p₁ p₂ x b S S' T T' U →
-      judged S.pausing U.pausing W.head.form W.head.parts.byte x.pauses own ≡ (S.pausing >>= (λ _. statement-pauses p a.statements t a.threads r.0))
-  by-head w t₁ t₂ m p₁ p₂ x b S S' T T' U k =
+  by_head : (w t₁ t₂ m p₁ p₂ : ℕ) (x : Extent) (b : Counts) (S S' T T' U : Survey) → Steps (seen_head p W.head) w t₁ t₂ m p₁ p₂ x b S S' T T' U →
+      judged S.pausing U.pausing W.head.form W.head.parts.byte x.pauses own ≡ (S.pausing >>= (λ _. statement_pauses p a.statements t a.threads r.0))
+  by_head w t₁ t₂ m p₁ p₂ x b S S' T T' U k =
       let h = W.head in let X = W.first in let Y = W.second in
       let f = h.form in
-      let own-thread = k.t₁_is ∙ ap (λ v. block-thread f t (a.threads + v)) k.w-is in
-      let first : read-block ds n t₁ (begun w) (e - length h.parts.after - length h.parts.second) h.parts.first ≡ Ok X =
-      (λ i. read-block ds n (own-thread i) (begun (k.w-is i)) (e - length h.parts.after - length h.parts.second) h.parts.first) ∙ W.first_read in
-      let summed : (x, b) ≡ (extent X, after_block X (begun w)) = same_ok (k.x-read ∙ ap (mapped (sum-block (begun w))) first) in
+      let own-thread = k.t₁_is ∙ ap (λ v. block_thread f t (a.threads + v)) k.w_is in
+      let first : read_block ds n t₁ (begun w) (e - length h.parts.after - length h.parts.second) h.parts.first ≡ Ok X =
+      (λ i. read_block ds n (own-thread i) (begun (k.w_is i)) (e - length h.parts.after - length h.parts.second) h.parts.first) ∙ W.first_read in
+      let summed : (x, b) ≡ (extent X, after_block X (begun w)) = same_ok (k.x_read ∙ ap (mapped (sum_block (begun w))) first) in
       let x-is : x ≡ extent X = ap (λ (z : Extent × Counts). z.0) summed in
-      let b-is : b ≡ after_block X (before-first f a) = ap (λ (z : Extent × Counts). z.1) summed ∙ (λ i. after_block X (begun (k.w-is i))) in
-      let threads : b.threads + w ≡ a.threads + par-count f + arms X + par-count f = λ i. (b-is i).threads + k.w-is i in
-      let own-second : t₂ ≡ block-thread f t (a.threads + par-count f + arms X + par-count f) = k.t₂_is ∙ ap (block-thread f t) threads in
-      let second : read-block ds m t₂ (between w b) (e - length h.parts.after) h.parts.second ≡ Ok Y =
-      (λ i. read-block ds (k.m-is i) (own-second i) (record { statements = (b-is i).statements; pars = (b-is i).pars; threads = threads i }) (e - length h.parts.after) h.parts.second) ∙ W.second-read in
-      let N₁ = (k.x-noted X W.first-bytes first).pausing in
-      let N₂ = (k.y-noted Y W.second-bytes second).pausing in
-      let sb = length (statement-bytes r.0) in
-      let whole : sb + length h.parts.after ≡ suc (length bs) = sym (length-append (statement-bytes r.0) h.parts.after) ∙ ap (λ l. length (statement-bytes r.0 ++ l)) (sym (ap (λ (z : Stmt (Unit {0}) × List ℕ). z.1) W.is)) ∙ ap length W.same in
-      let lX = ap length W.first-same in let lY = ap length W.second-same in
-      let at = k.p₁-is in let past = k.after-command in let next = k.p₂-is in
-      let q₁ : p₁ ≡ p + (sb - (length (block-bytes X) + length (block-bytes Y))) = omega arith in
-      let q₂ : p₂ ≡ p + (sb - length (block-bytes Y)) = omega arith in
+      let b-is : b ≡ after_block X (before_first f a) = ap (λ (z : Extent × Counts). z.1) summed ∙ (λ i. after_block X (begun (k.w_is i))) in
+      let threads : b.threads + w ≡ a.threads + par_count f + arms X + par_count f = λ i. (b-is i).threads + k.w_is i in
+      let own-second : t₂ ≡ block_thread f t (a.threads + par_count f + arms X + par_count f) = k.t₂_is ∙ ap (block_thread f t) threads in
+      let second : read_block ds m t₂ (between w b) (e - length h.parts.after) h.parts.second ≡ Ok Y =
+      (λ i. read_block ds (k.m_is i) (own-second i) (record { statements = (b-is i).statements; pars = (b-is i).pars; threads = threads i }) (e - length h.parts.after) h.parts.second) ∙ W.second_read in
+      let N₁ = (k.x_noted X W.first_bytes first).pausing in
+      let N₂ = (k.y_noted Y W.second_bytes second).pausing in
+      let sb = length (statement_bytes r.0) in
+      let whole : sb + length h.parts.after ≡ suc (length bs) = sym (length-append (statement_bytes r.0) h.parts.after) ∙ ap (λ l. length (statement_bytes r.0 ++ l)) (sym (ap (λ (z : Stmt (Unit {0}) × List ℕ). z.1) W.is)) ∙ ap length W.same in
+      let lX = ap length W.first_same in let lY = ap length W.second_same in
+      let at = k.p₁_is in let past = k.after_command in let next = k.p₂_is in
+      let q₁ : p₁ ≡ p + (sb - (length (block_bytes X) + length (block_bytes Y))) = omega arith in
+      let q₂ : p₂ ≡ p + (sb - length (block_bytes Y)) = omega arith in
       let s-is : r.0 ≡ build f h.parts.byte h.expression X Y = ap (λ (z : Stmt (Unit {0}) × List ℕ). z.0) W.is in
-      ap (λ z. judged S.pausing z f h.parts.byte x.pauses own) (N₂ ∙ ap (λ z. z >>= (λ _. loops-pause p₂ b.statements t₂ (b.threads + w) Y)) (k.same-between ∙ N₁ ∙ ap (λ z. z >>= (λ _. loops-pause p₁ (a.statements + 1) t₁ (a.threads + w) X)) k.same-before))
-      ∙ (λ i. judged S.pausing ((S.pausing >>= (λ _. loops-pause p₁ (a.statements + 1) (own-thread i) (a.threads + k.w-is i) X)) >>= (λ _. loops-pause p₂ (b-is i).statements (own-second i) (threads i) Y)) f h.parts.byte (x-is i).pauses own)
-      ∙ noted-by-form h.parts.byte h.expression X Y p a.statements t a.threads p₁ p₂ S.pausing f W.no-first W.no_second
-      (q₁ ∙ ap (λ s. p + (length (statement-bytes s) - (length (block-bytes X) + length (block-bytes Y)))) s-is)
-      (q₂ ∙ ap (λ s. p + (length (statement-bytes s) - length (block-bytes Y))) s-is)
-      ∙ ap (λ s. S.pausing >>= (λ _. statement-pauses p a.statements t a.threads s)) (sym s-is)
+      ap (λ z. judged S.pausing z f h.parts.byte x.pauses own) (N₂ ∙ ap (λ z. z >>= (λ _. loops_pause p₂ b.statements t₂ (b.threads + w) Y)) (k.same_between ∙ N₁ ∙ ap (λ z. z >>= (λ _. loops_pause p₁ (a.statements + 1) t₁ (a.threads + w) X)) k.same_before))
+      ∙ (λ i. judged S.pausing ((S.pausing >>= (λ _. loops_pause p₁ (a.statements + 1) (own-thread i) (a.threads + k.w_is i) X)) >>= (λ _. loops_pause p₂ (b-is i).statements (own-second i) (threads i) Y)) f h.parts.byte (x-is i).pauses own)
+      ∙ noted_by_form h.parts.byte h.expression X Y p a.statements t a.threads p₁ p₂ S.pausing f W.no_first W.no_second
+      (q₁ ∙ ap (λ s. p + (length (statement_bytes s) - (length (block_bytes X) + length (block_bytes Y)))) s-is)
+      (q₂ ∙ ap (λ s. p + (length (statement_bytes s) - length (block_bytes Y))) s-is)
+      ∙ ap (λ s. S.pausing >>= (λ _. statement_pauses p a.statements t a.threads s)) (sym s-is)
 
   -- The verdict that the code comes to is the statement's.
-  pub statement-judged : (q : Seen) → Ok q ≡ mapped (seen-head p) (head_at ds n t a e c bs) → (w t₁ t₂ m p₁ p₂ : ℕ) (x : Extent) (b : Counts) (S S' T T' U : Survey) → Steps q w t₁ t₂ m p₁ p₂ x b S S' T T' U →
-      judged S.pausing U.pausing q.form q.byte x.pauses own ≡ (S.pausing >>= (λ _. statement-pauses p a.statements t a.threads r.0))
-  statement-judged q seen w t₁ t₂ m p₁ p₂ x b S S' T T' U k =
-      let is : q ≡ seen-head p W.head = same_ok (seen ∙ ap (mapped (seen-head p)) (refused-ok _ _ W.head_read)) in
-      let P : Seen → Type 0 = λ q. Steps q w t₁ t₂ m p₁ p₂ x b S S' T T' U → judged S.pausing U.pausing q.form q.byte x.pauses own ≡ (S.pausing >>= (λ _. statement-pauses p a.statements t a.threads r.0)) in
-      subst P (sym is) (by-head w t₁ t₂ m p₁ p₂ x b S S' T T' U) k
+  pub statement_judged : (q : Seen) → Ok q ≡ mapped (seen_head p) (head_at ds n t a e c bs) → (w t₁ t₂ m p₁ p₂ : ℕ) (x : Extent) (b : Counts) (S S' T T' U : Survey) → Steps q w t₁ t₂ m p₁ p₂ x b S S' T T' U →
+      judged S.pausing U.pausing q.form q.byte x.pauses own ≡ (S.pausing >>= (λ _. statement_pauses p a.statements t a.threads r.0))
+  statement_judged q seen w t₁ t₂ m p₁ p₂ x b S S' T T' U k =
+      let is : q ≡ seen_head p W.head = same_ok (seen ∙ ap (mapped (seen_head p)) (refused_ok _ _ W.head_read)) in
+      let P : Seen → Type 0 = λ q. Steps q w t₁ t₂ m p₁ p₂ x b S S' T T' U → judged S.pausing U.pausing q.form q.byte x.pauses own ≡ (S.pausing >>= (λ _. statement_pauses p a.statements t a.threads r.0)) in
+      subst P (sym is) (by_head w t₁ t₂ m p₁ p₂ x b S S' T T' U) k

@@ -1,6 +1,6 @@
--- Tick length and must-pause of parts of the text in 32 bits: each length is exact up to 2 ^ 32 - 1, and stays there.
+-- Tick length and must_pause of parts of the text in 32 bits: each length is exact up to 2 ^ 32 - 1, and stays there.
 use Rattle.std.specs.Prelude.{ℕ, ◌+◌, ◌-◌, ◌*◌, ◌^◌, min, max, true, false, cond, ◌&&◌, ◌||◌, ◌==◌}
-use Rattle.rules.specs.Lengths.{length-of, block-length, pauses, must-pause}
+use Rattle.rules.specs.Lengths.{length_of, block_length, pauses, must_pause}
 use Rattle.rules.specs.Text.{Stmt, Block}
 use Rattle.rules.specs.declared.program.Form.{Form}
 use Rattle.rules.specs.declared.program.Form.TheVariants as Form
@@ -11,12 +11,12 @@ abbrev pub capped : ℕ → ℕ
 capped n = min n (2 ^ 32 - 1)
 
 -- A statement's tick length, capped, and whether it always pauses.
-abbrev pub extent-of : Stmt (Unit {0}) → Extent
-extent-of s = record { length = capped (length-of s); pauses = pauses s }
+abbrev pub extent_of : Stmt (Unit {0}) → Extent
+extent_of s = record { length = capped (length_of s); pauses = pauses s }
 
 -- A block's tick length, capped, and whether it always pauses.
 abbrev pub extent : Block (Unit {0}) → Extent
-extent B = record { length = capped (block-length B); pauses = must-pause B }
+extent B = record { length = capped (block_length B); pauses = must_pause B }
 
 -- One part and then another: lengths add up, and one that pauses is enough.
 abbrev pub joined : Extent → Extent → Extent

@@ -1,16 +1,16 @@
 -- What reading notes beside extents and counts: the first pausing loop that may not pause, and the rows of statements.
 use Rattle.std.specs.Prelude.{◌≡◌, ℕ, ◌+◌, ◌<◌, Bool, true, false, cond, not, ◌&&◌, List, length, Ok, Err, Option, Result, ◌==◌, slice_set}
 use Rattle.std.specs.List.{AllByRecursion as All}
-use Rattle.rules.specs.Numbering.{number-statement, number-block}
+use Rattle.rules.specs.Numbering.{number_statement, number_block}
 use Rattle.rules.specs.Outcomes.{◌>>=◌}
-use Rattle.rules.specs.Reading.{loops-pause, statement-pauses}
+use Rattle.rules.specs.Reading.{loops_pause, statement_pauses}
 use Rattle.rules.specs.Text.{Stmt, Block, count_of}
 use Rattle.rules.specs.declared.faults.LoadFault.{LoadFault}
 use Rattle.rules.specs.declared.program.Form.{Form}
 use Rattle.rules.specs.declared.program.Form.TheVariants as Form
 use Rattle.table.specs.Filling.{filled, filled_in}
 use Rattle.table.specs.Rows.{row}
-use Rattle.reader.specs.Tasks.{number-if}
+use Rattle.reader.specs.Tasks.{number_if}
 use Rattle.reader.specs.declared.survey.Survey.{Survey}
 
 -- A pausing loop, by its form, its bound and whether its block must pause, that may not pause.
@@ -29,18 +29,18 @@ judged before after k o b f = cond (idle_loop k o b) (before >>= (λ _. Err f)) 
 
 -- A block that begins at place p, with statement n, in thread t, where u is the number that the next arm takes, in the block of statement o, if in one, is noted.
 pub record Noted (o : Option ℕ) (p n t u : ℕ) (B : Block (Unit {0})) (before after : Survey) : Type 0 where
-  pub pausing : after.pausing ≡ (before.pausing >>= (λ _. loops-pause p n t u B))
-  pub rows : after.rows ≡ filled o (number-block n p t u B) before.rows
+  pub pausing : after.pausing ≡ (before.pausing >>= (λ _. loops_pause p n t u B))
+  pub rows : after.rows ≡ filled o (number_block n p t u B) before.rows
 
 -- A statement is noted likewise, with the statement that follows it.
-pub record Noted-one (o next : Option ℕ) (p n t u : ℕ) (s : Stmt (Unit {0})) (before after : Survey) : Type 0 where
-  pub pausing : after.pausing ≡ (before.pausing >>= (λ _. statement-pauses p n t u s))
-  pub rows : after.rows ≡ slice_set (filled_in (number-statement n p t u s) before.rows) n (row o (number-statement n p t u s) next)
+pub record NotedOne (o next : Option ℕ) (p n t u : ℕ) (s : Stmt (Unit {0})) (before after : Survey) : Type 0 where
+  pub pausing : after.pausing ≡ (before.pausing >>= (λ _. statement_pauses p n t u s))
+  pub rows : after.rows ≡ slice_set (filled_in (number_statement n p t u s) before.rows) n (row o (number_statement n p t u s) next)
 
 -- A block of these bytes is noted, if it was read.
-abbrev pub Block-noted : Result (Block (Unit {0})) LoadFault → List ℕ → Option ℕ → (p n t u : ℕ) → (before after : Survey) → Type 0
-Block-noted r bs o p n t u S T = (B : Block (Unit {0})) → All (λ b. b < 256) bs → r ≡ Ok B → Noted o p n t u B S T
+abbrev pub BlockNoted : Result (Block (Unit {0})) LoadFault → List ℕ → Option ℕ → (p n t u : ℕ) → (before after : Survey) → Type 0
+BlockNoted r bs o p n t u S T = (B : Block (Unit {0})) → All (λ b. b < 256) bs → r ≡ Ok B → Noted o p n t u B S T
 
 -- A statement whose command these bytes follow, in a block that ends at e, is noted, if it was read; it is followed by one if bytes are left.
-abbrev pub Statement-noted : Result (Stmt (Unit {0}) × List ℕ) LoadFault → List ℕ → Option ℕ → (e p n t u : ℕ) → (before after : Survey) → Type 0
-Statement-noted r bs o e p n t u S T = (q : Stmt (Unit {0}) × List ℕ) → length bs < e → All (λ b. b < 256) bs → r ≡ Ok q → Noted-one o (number-if (length q.1) (n + count_of q.0)) p n t u q.0 S T
+abbrev pub StatementNoted : Result (Stmt (Unit {0}) × List ℕ) LoadFault → List ℕ → Option ℕ → (e p n t u : ℕ) → (before after : Survey) → Type 0
+StatementNoted r bs o e p n t u S T = (q : Stmt (Unit {0}) × List ℕ) → length bs < e → All (λ b. b < 256) bs → r ≡ Ok q → NotedOne o (number_if (length q.1) (n + count_of q.0)) p n t u q.0 S T

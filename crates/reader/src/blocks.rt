@@ -1,12 +1,12 @@
 //! Reads blocks by their statements, and statements by their blocks.
 ghost use Rattle.std.specs.Prelude.{◌≡◌, suc, ◌≤◌, OnOk};
 ghost use Rattle.evaluator.specs.Outcomes.{mapped};
-ghost use Rattle.rules.specs.Reading.{read-block as Block-read, read-statement as statement-read};
-ghost use Rattle.declarations.specs.Declaring.{variables-of};
+ghost use Rattle.rules.specs.Reading.{read_block as Block-read, read_statement as statement_read};
+ghost use Rattle.declarations.specs.Declaring.{variables_of};
 ghost use Rattle.heads.specs.Counting.{counted, Few};
-ghost use Rattle.heads.specs.Readers.{left-of, statement-place, Same-block};
-ghost use Rattle.reader.specs.Noting.{Block-noted, Statement-noted};
-ghost use Rattle.reader.specs.Told.{with-counts, with-counts-and-left, sum-block, sum-statement, Read-through};
+ghost use Rattle.heads.specs.Readers.{left_of, statement_place, SameBlock};
+ghost use Rattle.reader.specs.Noting.{BlockNoted, StatementNoted};
+ghost use Rattle.reader.specs.Told.{with_counts, with_counts_and_left, sum_block, sum_statement, ReadThrough};
 
 use crate::extents;
 use crate::extents::Extent;
@@ -33,10 +33,10 @@ pub(crate) fn read_block(
     declarations: &[Declaration],
 ) -> Result<Extent, LoadFault>
     requires { (Few survey.old.counts) × (thread ≤ 31) }
-    ensures answer { mapped (with-counts (counted survey.new.counts)) result ≡ mapped (sum-block (counted survey.old.counts)) (Block-read (variables-of declarations.now) scope.old.nesting thread (counted survey.old.counts) reader.old.end (left-of reader.old)) }
-    ensures noted { OnOk result (Block-noted (Block-read (variables-of declarations.now) scope.old.nesting thread (counted survey.old.counts) reader.old.end (left-of reader.old)) (left-of reader.old) inside reader.old.place survey.old.counts.statements thread survey.old.counts.threads survey.old survey.new) }
+    ensures answer { mapped (with_counts (counted survey.new.counts)) result ≡ mapped (sum_block (counted survey.old.counts)) (Block-read (variables_of declarations.now) scope.old.nesting thread (counted survey.old.counts) reader.old.end (left_of reader.old)) }
+    ensures noted { OnOk result (BlockNoted (Block-read (variables_of declarations.now) scope.old.nesting thread (counted survey.old.counts) reader.old.end (left_of reader.old)) (left_of reader.old) inside reader.old.place survey.old.counts.statements thread survey.old.counts.threads survey.old survey.new) }
     ensures few { OnOk result (Few survey.new.counts) }
-    ensures through { OnOk result (Read-through reader.old reader.new) }
+    ensures through { OnOk result (ReadThrough reader.old reader.new) }
     ensures thread { scope.new.thread ≡ scope.old.thread }
     ensures nesting { scope.new.nesting ≡ scope.old.nesting }
 {
@@ -70,10 +70,10 @@ fn read_statements(
     declarations: &[Declaration],
 ) -> Result<Extent, LoadFault>
     requires { (Few survey.old.counts) × (scope.old.thread ≤ 31) }
-    ensures answer { mapped (with-counts (counted survey.new.counts)) result ≡ mapped (sum-block (counted survey.old.counts)) (Block-read (variables-of declarations.now) (suc scope.old.nesting) scope.old.thread (counted survey.old.counts) reader.old.end (left-of reader.old)) }
-    ensures noted { OnOk result (Block-noted (Block-read (variables-of declarations.now) (suc scope.old.nesting) scope.old.thread (counted survey.old.counts) reader.old.end (left-of reader.old)) (left-of reader.old) inside reader.old.place survey.old.counts.statements scope.old.thread survey.old.counts.threads survey.old survey.new) }
+    ensures answer { mapped (with_counts (counted survey.new.counts)) result ≡ mapped (sum_block (counted survey.old.counts)) (Block-read (variables_of declarations.now) (suc scope.old.nesting) scope.old.thread (counted survey.old.counts) reader.old.end (left_of reader.old)) }
+    ensures noted { OnOk result (BlockNoted (Block-read (variables_of declarations.now) (suc scope.old.nesting) scope.old.thread (counted survey.old.counts) reader.old.end (left_of reader.old)) (left_of reader.old) inside reader.old.place survey.old.counts.statements scope.old.thread survey.old.counts.threads survey.old survey.new) }
     ensures few { OnOk result (Few survey.new.counts) }
-    ensures through { OnOk result (Read-through reader.old reader.new) }
+    ensures through { OnOk result (ReadThrough reader.old reader.new) }
     ensures thread { scope.new.thread ≡ scope.old.thread }
     ensures nesting { scope.new.nesting ≡ scope.old.nesting }
 {
@@ -99,10 +99,10 @@ fn read_statement(
     declarations: &[Declaration],
 ) -> Result<Extent, LoadFault>
     requires { (Few survey.old.counts) × (scope.old.thread ≤ 31) }
-    ensures answer { mapped (with-counts-and-left (counted survey.new.counts) (left-of reader.new)) result ≡ mapped (sum-statement (counted survey.old.counts)) (statement-read (variables-of declarations.now) scope.old.nesting (Block-read (variables-of declarations.now) scope.old.nesting) scope.old.thread (counted survey.old.counts) reader.old.end command (left-of reader.old)) }
+    ensures answer { mapped (with_counts_and_left (counted survey.new.counts) (left_of reader.new)) result ≡ mapped (sum_statement (counted survey.old.counts)) (statement_read (variables_of declarations.now) scope.old.nesting (Block-read (variables_of declarations.now) scope.old.nesting) scope.old.thread (counted survey.old.counts) reader.old.end command (left_of reader.old)) }
     ensures few { OnOk result (Few survey.new.counts) }
-    ensures noted { OnOk result (Statement-noted (statement-read (variables-of declarations.now) scope.old.nesting (Block-read (variables-of declarations.now) scope.old.nesting) scope.old.thread (counted survey.old.counts) reader.old.end command (left-of reader.old)) (left-of reader.old) inside reader.old.end (statement-place reader.old) survey.old.counts.statements scope.old.thread survey.old.counts.threads survey.old survey.new) }
-    ensures onward { OnOk result (Same-block reader.old reader.new) }
+    ensures noted { OnOk result (StatementNoted (statement_read (variables_of declarations.now) scope.old.nesting (Block-read (variables_of declarations.now) scope.old.nesting) scope.old.thread (counted survey.old.counts) reader.old.end command (left_of reader.old)) (left_of reader.old) inside reader.old.end (statement_place reader.old) survey.old.counts.statements scope.old.thread survey.old.counts.threads survey.old survey.new) }
+    ensures onward { OnOk result (SameBlock reader.old reader.new) }
     ensures thread { scope.new.thread ≡ scope.old.thread }
     ensures nesting { scope.new.nesting ≡ scope.old.nesting }
 {

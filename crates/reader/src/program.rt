@@ -1,8 +1,8 @@
 //! Reads all statements of a program.
 ghost use Rattle.std.specs.Prelude.{◌≡◌};
 ghost use Rattle.evaluator.specs.Outcomes.{mapped};
-ghost use Rattle.declarations.specs.Declaring.{variables-of};
-ghost use Rattle.reader.specs.Summaries.{main-in, summary};
+ghost use Rattle.declarations.specs.Declaring.{variables_of};
+ghost use Rattle.reader.specs.Summaries.{main_in, summary};
 
 use crate::blocks::read_block;
 use crate::extents::Extent;
@@ -27,7 +27,7 @@ pub fn read_main(
     from: usize,
     declarations: &[Declaration],
 ) -> Result<Summary, LoadFault>
-    ensures { result ≡ mapped (summary from) (main-in (variables-of declarations.now) from program.now) }
+    ensures { result ≡ mapped (summary from) (main_in (variables_of declarations.now) from program.now) }
 {
     if program.len() > MOST_BYTES || from > program.len() {
         return Err(LoadFault::BadLength);

@@ -1,16 +1,16 @@
 -- Calls: from a machine and a call to an answer and a machine. A refused call changes nothing.
 use Rattle.std.specs.Prelude.{ℕ, zero, suc, ◌+◌, Bool, true, false, List, [], ◌∷◌, ◌++◌, length, drop, ℤ, Ok, Err, Result, ◌==◌, nat_le}
 use Rattle.arithmetic.specs.Meaning.{Meaning}
-use Rattle.evaluator.specs.Evaluating.{all-places, variable-places}
-use Rattle.rules.specs.Memory.{held-places}
+use Rattle.evaluator.specs.Evaluating.{all_places, variable_places}
+use Rattle.rules.specs.Memory.{held_places}
 use Rattle.rules.specs.Numbering.{text_of}
 use Rattle.rules.specs.Opening.{opening}
 use Rattle.rules.specs.Reading.{read}
-use Rattle.rules.specs.Report.{Rate, rates, reported-in, report-size}
-use Rattle.rules.specs.Scopes.{is-input}
+use Rattle.rules.specs.Report.{Rate, rates, reported_in, report_size}
+use Rattle.rules.specs.Scopes.{is_input}
 use Rattle.rules.specs.Stepping.{ready?, step}
 use Rattle.rules.specs.Text.{Program}
-use Rattle.rules.specs.Threads.{Config, closable, is-ended}
+use Rattle.rules.specs.Threads.{Config, closable, is_ended}
 use Rattle.rules.specs.Ticks.{closing, finishing, loaded}
 use Rattle.rules.specs.declared.answers.Answer.{Answer}
 use Rattle.rules.specs.declared.answers.Answer.TheVariants.{Accepted, Opened, Steps, Reported, Refused}
@@ -22,8 +22,8 @@ use Rattle.rules.specs.declared.refusals.CallRefusal.TheVariants as Refusal
 -- A call with its arguments.
 pub data Call : Type 0 where
   load : (bytes : List ℕ) → Call
-  open-tick : (readings : List ℤ) → Call
-  step-thread : (t : ℕ) → Call
+  open_tick : (readings : List ℤ) → Call
+  step_thread : (t : ℕ) → Call
   close finish : Call
   report : (space : List ℕ) → Call
 
@@ -35,7 +35,7 @@ pub data Machine (V : Type 0) : Type 0 where
 -- How many inputs are declared.
 abbrev pub inputs : List Variable → ℕ
 inputs [] = 0
-inputs (d ∷ ds) = elim (is-input d.kind) [ true ↦ suc (inputs ds) | false ↦ inputs ds ]
+inputs (d ∷ ds) = elim (is_input d.kind) [ true ↦ suc (inputs ds) | false ↦ inputs ds ]
 
 module _ {V : Type 0} (M : Meaning V) where
   -- How many places the value memory has.
@@ -44,9 +44,9 @@ module _ {V : Type 0} (M : Meaning V) where
   places_of (running w bs p σ b c) = length w
 
   -- What the value memory holds: with a program loaded, its stores and copies in the places below 1,024, and in the work places what they held.
-  abbrev pub memory-of : Machine V → List V
-  memory-of (empty w) = w
-  memory-of (running w bs p σ b c) = held-places M p.variables σ ++ drop variable-places w
+  abbrev pub memory_of : Machine V → List V
+  memory_of (empty w) = w
+  memory_of (running w bs p σ b c) = held_places M p.variables σ ++ drop variable_places w
 
   -- A program that was read is loaded; a fault of it refuses the load.
   abbrev pub load_read : Machine V → (memory : List V) → List ℕ → Result Program LoadFault → Answer × Machine V
@@ -54,14 +54,14 @@ module _ {V : Type 0} (M : Meaning V) where
   load_read m w bs (Err f) = (Refused (Refusal.Program f), m)
 
   -- Loading: 12 tick open, then the faults of the program.
-  abbrev pub load-call : List ℕ → Machine V → Answer × Machine V
-  load-call bs (empty w) = load_read (empty w) w bs (read bs)
-  load-call bs (running w old p σ true c) = (Refused Refusal.TickOpen, running w old p σ true c)
-  load-call bs (running w old p σ false c) = load_read (running w old p σ false c) w bs (read bs)
+  abbrev pub load_call : List ℕ → Machine V → Answer × Machine V
+  load_call bs (empty w) = load_read (empty w) w bs (read bs)
+  load_call bs (running w old p σ true c) = (Refused Refusal.TickOpen, running w old p σ true c)
+  load_call bs (running w old p σ false c) = load_read (running w old p σ false c) w bs (read bs)
 
   -- Opening with no tick open: 14 main ended, then 15 count of readings.
-  abbrev pub open-closed : List ℤ → (memory : List V) → List ℕ → Program → Config V → ℕ → Answer × Machine V
-  open-closed rs w bs p σ c = elim (is-ended σ.main.own.state) [
+  abbrev pub open_closed : List ℤ → (memory : List V) → List ℕ → Program → Config V → ℕ → Answer × Machine V
+  open_closed rs w bs p σ c = elim (is_ended σ.main.own.state) [
     | true ↦ (Refused Refusal.MainEnded, running w bs p σ false c)
     | false ↦ elim (length rs == inputs p.variables) [
       | true ↦ (Opened, running w bs p (opening M p.variables (text_of p) rs σ) true 0)
@@ -70,10 +70,10 @@ module _ {V : Type 0} (M : Meaning V) where
   ]
 
   -- Opening: 12 tick open, 13 nothing loaded.
-  abbrev pub open-call : List ℤ → Machine V → Answer × Machine V
-  open-call rs (empty w) = (Refused Refusal.NothingLoaded, empty w)
-  open-call rs (running w bs p σ true c) = (Refused Refusal.TickOpen, running w bs p σ true c)
-  open-call rs (running w bs p σ false c) = open-closed rs w bs p σ c
+  abbrev pub open_call : List ℤ → Machine V → Answer × Machine V
+  open_call rs (empty w) = (Refused Refusal.NothingLoaded, empty w)
+  open_call rs (running w bs p σ true c) = (Refused Refusal.TickOpen, running w bs p σ true c)
+  open_call rs (running w bs p σ false c) = open_closed rs w bs p σ c
 
   -- The step of thread t in an open tick.
   abbrev pub stepped : Program → ℕ → Config V → Config V
@@ -89,55 +89,55 @@ module _ {V : Type 0} (M : Meaning V) where
   ]
 
   -- Closing: 16 no tick open, 18 steps remain; it needs main paused, held or ended, and answers the count.
-  abbrev pub close-call : Machine V → Answer × Machine V
-  close-call (empty w) = (Refused Refusal.NoTick, empty w)
-  close-call (running w bs p σ false c) = (Refused Refusal.NoTick, running w bs p σ false c)
-  close-call (running w bs p σ true c) = elim (closable σ.main.own.state) [
+  abbrev pub close_call : Machine V → Answer × Machine V
+  close_call (empty w) = (Refused Refusal.NoTick, empty w)
+  close_call (running w bs p σ false c) = (Refused Refusal.NoTick, running w bs p σ false c)
+  close_call (running w bs p σ true c) = elim (closable σ.main.own.state) [
     | true ↦ (Steps c, running w bs p (closing M p.variables σ) false c)
     | false ↦ (Refused Refusal.StepsRemain, running w bs p σ true c)
   ]
 
   -- Finishing: 16 no tick open; it steps the lowest ready thread until closing is accepted, closes, and answers the count.
-  abbrev pub finish-call : Machine V → Answer × Machine V
-  finish-call (empty w) = (Refused Refusal.NoTick, empty w)
-  finish-call (running w bs p σ false c) = (Refused Refusal.NoTick, running w bs p σ false c)
-  finish-call (running w bs p σ true c) =
+  abbrev pub finish_call : Machine V → Answer × Machine V
+  finish_call (empty w) = (Refused Refusal.NoTick, empty w)
+  finish_call (running w bs p σ false c) = (Refused Refusal.NoTick, running w bs p σ false c)
+  finish_call (running w bs p σ true c) =
       let e = finishing M p.variables (text_of p) c σ in (Steps e.0, running w bs p e.1 false e.0)
 
   -- The rates of a configuration.
-  abbrev pub rates-of : Program → Config V → List Rate
-  rates-of p σ = rates M p.variables 0 σ.stores
+  abbrev pub rates_of : Program → Config V → List Rate
+  rates_of p σ = rates M p.variables 0 σ.stores
 
   -- Reporting: 13 nothing loaded, 19 space under 5 bytes an output and 8 for the sum.
-  abbrev pub report-call : List ℕ → Machine V → Answer × Machine V
-  report-call space (empty w) = (Refused Refusal.NothingLoaded, empty w)
-  report-call space (running w bs p σ b c) = elim (nat_le (report-size (rates-of p σ)) (length space)) [
+  abbrev pub report_call : List ℕ → Machine V → Answer × Machine V
+  report_call space (empty w) = (Refused Refusal.NothingLoaded, empty w)
+  report_call space (running w bs p σ b c) = elim (nat_le (report_size (rates_of p σ)) (length space)) [
     | true ↦ (Reported, running w bs p σ b c)
     | false ↦ (Refused Refusal.Space, running w bs p σ b c)
   ]
 
   -- A call over a value memory of the right length.
-  abbrev pub perform-right : Call → Machine V → Answer × Machine V
-  perform-right (load bs) m = load-call bs m
-  perform-right (open-tick rs) m = open-call rs m
-  perform-right (step-thread t) m = step_call t m
-  perform-right close m = close-call m
-  perform-right finish m = finish-call m
-  perform-right (report space) m = report-call space m
+  abbrev pub perform_right : Call → Machine V → Answer × Machine V
+  perform_right (load bs) m = load_call bs m
+  perform_right (open_tick rs) m = open_call rs m
+  perform_right (step_thread t) m = step_call t m
+  perform_right close m = close_call m
+  perform_right finish m = finish_call m
+  perform_right (report space) m = report_call space m
 
   -- Any call: 11 value memory not 1,040 places comes first.
   abbrev pub perform : Call → Machine V → Answer × Machine V
-  perform c m = elim (places_of m == all-places) [ true ↦ perform-right c m | false ↦ (Refused Refusal.Memory, m) ]
+  perform c m = elim (places_of m == all_places) [ true ↦ perform_right c m | false ↦ (Refused Refusal.Memory, m) ]
 
   -- The rates that a machine reports; with nothing loaded there are none.
-  abbrev pub rates-now : Machine V → List Rate
-  rates-now (empty w) = []
-  rates-now (running w bs p σ b c) = rates-of p σ
+  abbrev pub rates_now : Machine V → List Rate
+  rates_now (empty w) = []
+  rates_now (running w bs p σ b c) = rates_of p σ
 
   -- A space that a call is given, once it has been answered: an accepted report is in it; else it is as it was.
-  abbrev pub space-after : Answer → (space : List ℕ) → Machine V → List ℕ
-  space-after Accepted space m = space
-  space-after Opened space m = space
-  space-after (Steps n) space m = space
-  space-after Reported space m = reported-in space (rates-now m)
-  space-after (Refused r) space m = space
+  abbrev pub space_after : Answer → (space : List ℕ) → Machine V → List ℕ
+  space_after Accepted space m = space
+  space_after Opened space m = space
+  space_after (Steps n) space m = space
+  space_after Reported space m = reported_in space (rates_now m)
+  space_after (Refused r) space m = space

@@ -9,24 +9,24 @@ abbrev pub forms : List Form
 forms = Nothing ∷ Set ∷ Pause ∷ If ∷ Loop ∷ Par ∷ Abort ∷ []
 
 -- A set has a variable, a loop its bound, an abort its flags: one byte.
-abbrev pub has-byte : Form → Bool
-has-byte Nothing = false
-has-byte Set = true
-has-byte Pause = false
-has-byte If = false
-has-byte Loop = true
-has-byte Par = false
-has-byte Abort = true
+abbrev pub has_byte : Form → Bool
+has_byte Nothing = false
+has_byte Set = true
+has_byte Pause = false
+has_byte If = false
+has_byte Loop = true
+has_byte Par = false
+has_byte Abort = true
 
 -- A set, an if, a loop and an abort have an expression.
-abbrev pub has-expression : Form → Bool
-has-expression Nothing = false
-has-expression Set = true
-has-expression Pause = false
-has-expression If = true
-has-expression Loop = true
-has-expression Par = false
-has-expression Abort = true
+abbrev pub has_expression : Form → Bool
+has_expression Nothing = false
+has_expression Set = true
+has_expression Pause = false
+has_expression If = true
+has_expression Loop = true
+has_expression Par = false
+has_expression Abort = true
 
 -- An if, a loop, a par and an abort have a block.
 abbrev pub has_block : Form → Bool
@@ -39,34 +39,34 @@ has_block Par = true
 has_block Abort = true
 
 -- An if and a par have a second block.
-abbrev pub has-second-block : Form → Bool
-has-second-block Nothing = false
-has-second-block Set = false
-has-second-block Pause = false
-has-second-block If = true
-has-second-block Loop = false
-has-second-block Par = true
-has-second-block Abort = false
+abbrev pub has_second_block : Form → Bool
+has_second_block Nothing = false
+has_second_block Set = false
+has_second_block Pause = false
+has_second_block If = true
+has_second_block Loop = false
+has_second_block Par = true
+has_second_block Abort = false
 
 -- A par is one par, a statement of another form none.
-abbrev pub par-count : Form → ℕ
-par-count Nothing = 0
-par-count Set = 0
-par-count Pause = 0
-par-count If = 0
-par-count Loop = 0
-par-count Par = 1
-par-count Abort = 0
+abbrev pub par_count : Form → ℕ
+par_count Nothing = 0
+par_count Set = 0
+par_count Pause = 0
+par_count If = 0
+par_count Loop = 0
+par_count Par = 1
+par_count Abort = 0
 
 -- The flags of an abort are bits 0 and 1.
-abbrev pub flags-known : Form → ℕ → Bool
-flags-known Nothing o = true
-flags-known Set o = true
-flags-known Pause o = true
-flags-known If o = true
-flags-known Loop o = true
-flags-known Par o = true
-flags-known Abort o = nat_lt o 4
+abbrev pub flags_known : Form → ℕ → Bool
+flags_known Nothing o = true
+flags_known Set o = true
+flags_known Pause o = true
+flags_known If o = true
+flags_known Loop o = true
+flags_known Par o = true
+flags_known Abort o = nat_lt o 4
 
 -- The statement of a form, with its byte, its expression and its blocks as far as it has them.
 abbrev pub build : Form → ℕ → Expression → (X Y : Block (Unit {0})) → Stmt (Unit {0})

@@ -1,10 +1,10 @@
 -- The value memory: which place holds what.
 use Rattle.std.specs.Prelude.{ℕ, zero, suc, ◌-◌, ◌/◌, ◌%◌, Bool, true, false, cond, List, [], ◌∷◌, Some, None, Option, ◌==◌, nat_lt, slice_index_or}
 use Rattle.arithmetic.specs.Meaning.{Meaning}
-use Rattle.evaluator.specs.Evaluating.{variable-places}
-use Rattle.rules.specs.Scopes.{is_shared, is-private}
-use Rattle.rules.specs.Threads.{Own, Arms, no-arms, both, Thread, Config}
-use Rattle.rules.specs.Values.{declared, zero-value}
+use Rattle.evaluator.specs.Evaluating.{variable_places}
+use Rattle.rules.specs.Scopes.{is_shared, is_private}
+use Rattle.rules.specs.Threads.{Own, Arms, no_arms, both, Thread, Config}
+use Rattle.rules.specs.Values.{declared, zero_value}
 use Rattle.rules.specs.Variables.{Variable}
 
 -- The first of two, if there is one.
@@ -14,40 +14,40 @@ or_else (Some a) o = Some a
 
 module _ {V : Type 0} where
   -- Thread number t among the arms below a thread.
-  abbrev pub thread-below : ℕ → Arms V → Option (Own V)
-  thread-below t no-arms = None
-  thread-below t (both a b l L r R rest) = elim (t == a) [
+  abbrev pub thread_below : ℕ → Arms V → Option (Own V)
+  thread_below t no_arms = None
+  thread_below t (both a b l L r R rest) = elim (t == a) [
     | true ↦ Some l
-    | false ↦ elim (t == b) [ true ↦ Some r | false ↦ or_else (thread-below t L) (or_else (thread-below t R) (thread-below t rest)) ]
+    | false ↦ elim (t == b) [ true ↦ Some r | false ↦ or_else (thread_below t L) (or_else (thread_below t R) (thread_below t rest)) ]
   ]
 
   -- Thread number t, if the program has it.
-  abbrev pub thread-at : ℕ → Thread V → Option (Own V)
-  thread-at t h = elim (t == 0) [ true ↦ Some h.own | false ↦ thread-below t h.below ]
+  abbrev pub thread_at : ℕ → Thread V → Option (Own V)
+  thread_at t h = elim (t == 0) [ true ↦ Some h.own | false ↦ thread_below t h.below ]
 
 module _ {V : Type 0} (M : Meaning V) (ds : List Variable) where
   -- A thread's value of variable v; constant 0 where the program has no such thread.
   abbrev pub value_of : Option (Own V) → ℕ → V
-  value_of None v = zero-value M
-  value_of (Some o) v = slice_index_or o.memo.values v (zero-value M)
+  value_of None v = zero_value M
+  value_of (Some o) v = slice_index_or o.memo.values v (zero_value M)
 
   -- Variable v's store; a private's is what its owner has.
   abbrev pub store_at : Config V → ℕ → V
-  store_at σ v = cond (is-private (declared ds v).kind) (value_of (thread-at (declared ds v).owner σ.main) v) (slice_index_or σ.stores v (zero-value M))
+  store_at σ v = cond (is_private (declared ds v).kind) (value_of (thread_at (declared ds v).owner σ.main) v) (slice_index_or σ.stores v (zero_value M))
 
   -- Thread t's copy of variable v; what is no shared variable's holds constant 0.
   abbrev pub copy_at : Config V → (t v : ℕ) → V
-  copy_at σ t v = cond (is_shared (declared ds v).kind) (value_of (thread-at t σ.main) v) (zero-value M)
+  copy_at σ t v = cond (is_shared (declared ds v).kind) (value_of (thread_at t σ.main) v) (zero_value M)
 
   -- Place v below 32 is variable v's store, place 32 × (t + 1) + v is thread t's copy of shared variable v.
   abbrev pub place_at : Config V → ℕ → V
   place_at σ i = cond (nat_lt i 32) (store_at σ i) (copy_at σ (i / 32 - 1) (i % 32))
 
   -- What n places hold in order, from place i on.
-  abbrev pub places-from : Config V → (n i : ℕ) → List V
-  places-from σ zero i = []
-  places-from σ (suc n) i = place_at σ i ∷ places-from σ n (suc i)
+  abbrev pub places_from : Config V → (n i : ℕ) → List V
+  places_from σ zero i = []
+  places_from σ (suc n) i = place_at σ i ∷ places_from σ n (suc i)
 
   -- What the places of variables hold, below 1,024: stores and copies.
-  abbrev pub held-places : Config V → List V
-  held-places σ = places-from σ variable-places 0
+  abbrev pub held_places : Config V → List V
+  held_places σ = places_from σ variable_places 0

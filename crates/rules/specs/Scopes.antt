@@ -13,49 +13,49 @@ is_shared Shared = true
 is_shared Output = true
 
 -- Inputs are of kind 0; their stores take the readings.
-abbrev pub is-input : Kind → Bool
-is-input Input = true
-is-input Private = false
-is-input Shared = false
-is-input Output = false
+abbrev pub is_input : Kind → Bool
+is_input Input = true
+is_input Private = false
+is_input Shared = false
+is_input Output = false
 
 -- Privates are of kind 1; each belongs to one thread.
-abbrev pub is-private : Kind → Bool
-is-private Input = false
-is-private Private = true
-is-private Shared = false
-is-private Output = false
+abbrev pub is_private : Kind → Bool
+is_private Input = false
+is_private Private = true
+is_private Shared = false
+is_private Output = false
 
 -- Outputs are of kind 3: shared variables that are reported.
-abbrev pub is-output : Kind → Bool
-is-output Input = false
-is-output Private = false
-is-output Shared = false
-is-output Output = true
+abbrev pub is_output : Kind → Bool
+is_output Input = false
+is_output Private = false
+is_output Shared = false
+is_output Output = true
 
 -- A thread's expressions read inputs, shared variables and the thread's own privates.
-abbrev pub reads-kind : Kind → (owner thread : ℕ) → Bool
-reads-kind Input o t = true
-reads-kind Private o t = o == t
-reads-kind Shared o t = true
-reads-kind Output o t = true
+abbrev pub reads_kind : Kind → (owner thread : ℕ) → Bool
+reads_kind Input o t = true
+reads_kind Private o t = o == t
+reads_kind Shared o t = true
+reads_kind Output o t = true
 
 -- A thread sets shared variables and its own privates.
-abbrev pub sets-kind : Kind → (owner thread : ℕ) → Bool
-sets-kind Input o t = false
-sets-kind Private o t = o == t
-sets-kind Shared o t = true
-sets-kind Output o t = true
+abbrev pub sets_kind : Kind → (owner thread : ℕ) → Bool
+sets_kind Input o t = false
+sets_kind Private o t = o == t
+sets_kind Shared o t = true
+sets_kind Output o t = true
 
 -- A test of a variable that is declared; of another it fails.
-abbrev pub declared-so : (Kind → ℕ → ℕ → Bool) → ℕ → Option Variable → Bool
-declared-so test t None = false
-declared-so test t (Some d) = test d.kind d.owner t
+abbrev pub declared_so : (Kind → ℕ → ℕ → Bool) → ℕ → Option Variable → Bool
+declared_so test t None = false
+declared_so test t (Some d) = test d.kind d.owner t
 
 -- Thread t may read variable v.
 abbrev pub readable : List Variable → (t v : ℕ) → Bool
-readable ds t v = declared-so reads-kind t (slice_get ds v)
+readable ds t v = declared_so reads_kind t (slice_get ds v)
 
 -- Thread t may set variable v.
 abbrev pub settable : List Variable → (t v : ℕ) → Bool
-settable ds t v = declared-so sets-kind t (slice_get ds v)
+settable ds t v = declared_so sets_kind t (slice_get ds v)

@@ -50,23 +50,23 @@ abbrev mutual
 -- How many pars.
 abbrev mutual
   -- A par counts 1 and the pars of its arms, another statement the pars of its blocks.
-  pub pars-of : {A : Type 0} → Stmt A → ℕ
-  pars-of (nothing a) = 0
-  pars-of (assign a v e) = 0
-  pars-of (pause a) = 0
-  pars-of (branch a e X Y) = pars X + pars Y
-  pars-of (loop a bound e X) = pars X
-  pars-of (par a X Y) = 1 + (pars X + pars Y)
-  pars-of (abort a w i e X) = pars X
+  pub pars_of : {A : Type 0} → Stmt A → ℕ
+  pars_of (nothing a) = 0
+  pars_of (assign a v e) = 0
+  pars_of (pause a) = 0
+  pars_of (branch a e X Y) = pars X + pars Y
+  pars_of (loop a bound e X) = pars X
+  pars_of (par a X Y) = 1 + (pars X + pars Y)
+  pars_of (abort a w i e X) = pars X
 
   -- A block counts what its statements count.
   pub pars : {A : Type 0} → Block A → ℕ
   pars end = 0
-  pars (s then B) = pars-of s + pars B
+  pars (s then B) = pars_of s + pars B
 
 -- How many threads begin in a statement: each par has two arms.
 abbrev pub arms_of : {A : Type 0} → Stmt A → ℕ
-arms_of s = 2 * pars-of s
+arms_of s = 2 * pars_of s
 
 -- How many threads begin in a block: each par has two arms.
 abbrev pub arms : {A : Type 0} → Block A → ℕ
@@ -75,16 +75,16 @@ arms B = 2 * pars B
 -- Nested blocks, counting the block itself.
 abbrev mutual
   -- A statement counts as its deepest block, 0 without blocks.
-  pub inner-depth : {A : Type 0} → Stmt A → ℕ
-  inner-depth (nothing a) = 0
-  inner-depth (assign a v e) = 0
-  inner-depth (pause a) = 0
-  inner-depth (branch a e X Y) = max (depth X) (depth Y)
-  inner-depth (loop a bound e X) = depth X
-  inner-depth (par a X Y) = max (depth X) (depth Y)
-  inner-depth (abort a w i e X) = depth X
+  pub inner_depth : {A : Type 0} → Stmt A → ℕ
+  inner_depth (nothing a) = 0
+  inner_depth (assign a v e) = 0
+  inner_depth (pause a) = 0
+  inner_depth (branch a e X Y) = max (depth X) (depth Y)
+  inner_depth (loop a bound e X) = depth X
+  inner_depth (par a X Y) = max (depth X) (depth Y)
+  inner_depth (abort a w i e X) = depth X
 
   -- A block counts 1 more than its deepest statement, an empty one 1.
   pub depth : {A : Type 0} → Block A → ℕ
   depth end = 1
-  depth (s then B) = max (1 + inner-depth s) (depth B)
+  depth (s then B) = max (1 + inner_depth s) (depth B)

@@ -13,7 +13,7 @@ pub data After : Type 0 where
 -- A ready thread is at a statement, with the rest of its block and what comes after that, or at its text's end.
 pub data Place : Type 0 where
   at : Step → (B : Text) (k : After) → Place
-  at-end : Place
+  at_end : Place
 
 -- A thread waits, is held or is paused at a statement, with the rest of the block and what comes after that.
 pub data State : Type 0 where
@@ -36,7 +36,7 @@ pub record Own (V : Type 0) : Type 0 where
 
 -- The arms of a thread's pars in the order of its text: the two arms' thread numbers, each arm with the arms below it, the other pars' arms.
 pub data Arms (V : Type 0) : Type 0 where
-  no-arms : Arms V
+  no_arms : Arms V
   both : (a b : ℕ) (l : Own V) (L : Arms V) (r : Own V) (R : Arms V) (rest : Arms V) → Arms V
 
 -- A thread with all threads below it.
@@ -94,26 +94,26 @@ takes_part past = false
 takes_part out = true
 
 -- Ready: what a thread has to be for a step.
-abbrev pub is-ready : State → Bool
-is-ready fresh = false
-is-ready (ready p) = true
-is-ready (waiting m B k) = false
-is-ready (held m B k) = false
-is-ready (paused m B k) = false
-is-ready ended = false
-is-ready past = false
-is-ready out = false
+abbrev pub is_ready : State → Bool
+is_ready fresh = false
+is_ready (ready p) = true
+is_ready (waiting m B k) = false
+is_ready (held m B k) = false
+is_ready (paused m B k) = false
+is_ready ended = false
+is_ready past = false
+is_ready out = false
 
 -- Ended: what main must not be for an opening.
-abbrev pub is-ended : State → Bool
-is-ended fresh = false
-is-ended (ready p) = false
-is-ended (waiting m B k) = false
-is-ended (held m B k) = false
-is-ended (paused m B k) = false
-is-ended ended = true
-is-ended past = false
-is-ended out = false
+abbrev pub is_ended : State → Bool
+is_ended fresh = false
+is_ended (ready p) = false
+is_ended (waiting m B k) = false
+is_ended (held m B k) = false
+is_ended (paused m B k) = false
+is_ended ended = true
+is_ended past = false
+is_ended out = false
 
 -- The par that a waiting thread waits at, by its first arm's number.
 abbrev pub waits : State → Option ℕ

@@ -2,21 +2,21 @@
 use Rattle.std.specs.Prelude.{ℕ, zero, suc, ◌+◌, Bool, true, false, cond, List, ℤ, Some, None, Option, ◌==◌, slice_index_or}
 use Rattle.arithmetic.specs.Meaning.{Meaning}
 use Rattle.rules.specs.Joining.{for-each}
-use Rattle.rules.specs.Lengths.{block-length}
-use Rattle.rules.specs.Numbering.{Mark, Step, Text, first-arm, second-arm}
+use Rattle.rules.specs.Lengths.{block_length}
+use Rattle.rules.specs.Numbering.{Mark, Step, Text, first_arm, second_arm}
 use Rattle.rules.specs.Opening.{opening}
-use Rattle.rules.specs.Scopes.{is_shared, is-private}
+use Rattle.rules.specs.Scopes.{is_shared, is_private}
 use Rattle.rules.specs.Stepping.{lowest, step}
 use Rattle.rules.specs.Text.{nothing, assign, pause, branch, loop, par, abort, end, ◌then◌}
-use Rattle.rules.specs.Threads.{State, fresh, out, Memo, Own, Arms, no-arms, both, Thread, is, Config, closable}
-use Rattle.rules.specs.Values.{declared, zero-value}
+use Rattle.rules.specs.Threads.{State, fresh, out, Memo, Own, Arms, no_arms, both, Thread, is, Config, closable}
+use Rattle.rules.specs.Values.{declared, zero_value}
 use Rattle.rules.specs.Variables.{Variable}
 
 module _ {V : Type 0} where
   -- The arms of one text after those of another.
-  abbrev pub ◌then-arms◌ : Arms V → Arms V → Arms V
-  ◌then-arms◌ no-arms G = G
-  ◌then-arms◌ (both a b l L r R rest) G = both a b l L r R (◌then-arms◌ rest G)
+  abbrev pub ◌then_arms◌ : Arms V → Arms V → Arms V
+  ◌then_arms◌ no_arms G = G
+  ◌then_arms◌ (both a b l L r R rest) G = both a b l L r R (◌then_arms◌ rest G)
 
 module _ {V : Type 0} (M : Meaning V) (ds : List Variable) where
   -- The left-to-right run steps the lowest ready thread until main is paused, held or ended; with the count of steps. `fuel` is enough for any tick.
@@ -28,17 +28,17 @@ module _ {V : Type 0} (M : Meaning V) (ds : List Variable) where
   ]
 
   -- The store of a shared variable takes main's copy; another store stays.
-  abbrev pub closed-store : Config V → ℕ → V
-  closed-store σ v = cond (is_shared (declared ds v).kind) (slice_index_or σ.main.own.memo.values v (zero-value M)) (slice_index_or σ.stores v (zero-value M))
+  abbrev pub closed_store : Config V → ℕ → V
+  closed_store σ v = cond (is_shared (declared ds v).kind) (slice_index_or σ.main.own.memo.values v (zero_value M)) (slice_index_or σ.stores v (zero_value M))
 
   -- Closing moves main's copies of shared variables into the stores; the threads stay as they are.
   abbrev pub closing : Config V → Config V
-  closing σ = record { stores = for-each ds 0 (closed-store σ); main = σ.main }
+  closing σ = record { stores = for-each ds 0 (closed_store σ); main = σ.main }
 
   -- Stepping left to right from an open tick with a count, and closing.
   abbrev pub finishing : Text → (count : ℕ) → Config V → ℕ × Config V
   finishing X c σ =
-      let e = run_on (block-length X + 1) c σ.stores σ.main in
+      let e = run_on (block_length X + 1) c σ.stores σ.main in
       (e.0, closing (record { stores = σ.stores; main = e.1 }))
 
   -- One tick: opening, the left-to-right run, closing; with the count of steps.
@@ -48,34 +48,34 @@ module _ {V : Type 0} (M : Meaning V) (ds : List Variable) where
   -- ── what a load leaves ──
 
   -- A private's initial value lies with its owner.
-  abbrev pub initial-value : (thread v : ℕ) → V
-  initial-value t v = cond (is-private (declared ds v).kind) (cond ((declared ds v).owner == t) (M.constant (declared ds v).initial) (zero-value M)) (zero-value M)
+  abbrev pub initial_value : (thread v : ℕ) → V
+  initial_value t v = cond (is_private (declared ds v).kind) (cond ((declared ds v).owner == t) (M.constant (declared ds v).initial) (zero_value M)) (zero_value M)
 
   -- No copies, no marks, no passes left.
-  abbrev pub new-memo : (thread : ℕ) → Memo V
-  new-memo t = record { values = for-each ds 0 (initial-value t); sets = for-each ds 0 (λ v. false); passes = λ n. 0; marks = λ n. false }
+  abbrev pub new_memo : (thread : ℕ) → Memo V
+  new_memo t = record { values = for-each ds 0 (initial_value t); sets = for-each ds 0 (λ v. false); passes = λ n. 0; marks = λ n. false }
 
   -- The arms of a text at a load: all are out.
   abbrev mutual
     -- A par has its two arms, each with the arms inside it; another statement has the arms of its blocks.
-    pub arms-in : Step → Arms V
-    arms-in (nothing a) = no-arms
-    arms-in (assign a v e) = no-arms
-    arms-in (pause a) = no-arms
-    arms-in (branch a e X Y) = ◌then-arms◌ (arms-of-text X) (arms-of-text Y)
-    arms-in (loop a bound e X) = arms-of-text X
-    arms-in (par a X Y) =
-        both (first-arm a) (second-arm a X) (is out (new-memo (first-arm a))) (arms-of-text X) (is out (new-memo (second-arm a X))) (arms-of-text Y) no-arms
-    arms-in (abort a w i e X) = arms-of-text X
+    pub arms_in : Step → Arms V
+    arms_in (nothing a) = no_arms
+    arms_in (assign a v e) = no_arms
+    arms_in (pause a) = no_arms
+    arms_in (branch a e X Y) = ◌then_arms◌ (arms_of_text X) (arms_of_text Y)
+    arms_in (loop a bound e X) = arms_of_text X
+    arms_in (par a X Y) =
+        both (first_arm a) (second_arm a X) (is out (new_memo (first_arm a))) (arms_of_text X) (is out (new_memo (second_arm a X))) (arms_of_text Y) no_arms
+    arms_in (abort a w i e X) = arms_of_text X
 
     -- A block has the arms of its statements, in the order of the text.
-    pub arms-of-text : Text → Arms V
-    arms-of-text end = no-arms
-    arms-of-text (s then B) = ◌then-arms◌ (arms-in s) (arms-of-text B)
+    pub arms_of_text : Text → Arms V
+    arms_of_text end = no_arms
+    arms_of_text (s then B) = ◌then_arms◌ (arms_in s) (arms_of_text B)
 
   -- The stores hold the initial values, main is fresh, all other threads are out.
   abbrev pub loaded : Text → Config V
   loaded X = record {
     stores = for-each ds 0 (λ v. M.constant (declared ds v).initial);
-    main = record { own = is fresh (new-memo 0); below = arms-of-text X };
+    main = record { own = is fresh (new_memo 0); below = arms_of_text X };
   }

@@ -7,7 +7,7 @@ use Rattle.evaluator.specs.Commands.{Command, Placed}
 use Rattle.evaluator.specs.Evaluating.{run, only}
 use Rattle.evaluator.specs.Outcomes.{and_then}
 use Rattle.bounds.specs.declared.refusal.Refusal.{Refusal}
-use Rattle.rules.specs.Scopes.{is-input}
+use Rattle.rules.specs.Scopes.{is_input}
 use Rattle.rules.specs.Text.{Expression}
 use Rattle.rules.specs.Threads.{Memo}
 use Rattle.rules.specs.declared.program.Kind.TheVariants as Kind
@@ -28,13 +28,13 @@ unplaced c = record { place = 0; command = Some c }
 
 module _ {V : Type 0} (M : Meaning V) where
   -- The value of the constant 0.
-  abbrev pub zero-value : V
-  zero-value = M.constant (pos 0)
+  abbrev pub zero_value : V
+  zero_value = M.constant (pos 0)
 
   -- An accepted expression always has a value; 0 stands for what cannot come.
-  abbrev pub value-or-zero : Result V Refusal → V
-  value-or-zero (Ok x) = x
-  value-or-zero (Err f) = zero-value
+  abbrev pub value_or_zero : Result V Refusal → V
+  value_or_zero (Ok x) = x
+  value_or_zero (Err f) = zero_value
 
   -- Conditions hold when the shown number is not 0.
   abbrev pub condition : V → Bool
@@ -42,12 +42,12 @@ module _ {V : Type 0} (M : Meaning V) where
 
   module _ (ds : List Variable) (stores : List V) where
     -- Inputs are read in the stores, privates and copies of shared variables in what belongs to the thread.
-    abbrev pub variable-value : Memo V → ℕ → V
-    variable-value m v = cond (is-input (declared ds v).kind) (slice_index_or stores v zero-value) (slice_index_or m.values v zero-value)
+    abbrev pub variable_value : Memo V → ℕ → V
+    variable_value m v = cond (is_input (declared ds v).kind) (slice_index_or stores v zero_value) (slice_index_or m.values v zero_value)
 
     -- The value of an expression in a thread.
     abbrev pub value : Memo V → Expression → V
-    value m e = value-or-zero (and_then (run M (λ v. Some (variable-value m v)) (map unplaced e) []) only)
+    value m e = value_or_zero (and_then (run M (λ v. Some (variable_value m v)) (map unplaced e) []) only)
 
     -- A thread's condition holds when the value of its expression does not show 0.
     abbrev pub holds : Memo V → Expression → Bool

@@ -1,6 +1,6 @@
 //! What a call to a controller answers.
 ghost use Rattle.std.specs.Prelude.{◌≡◌};
-ghost use Rattle.rules.specs.Refusals.{answered-count, answered-refusal};
+ghost use Rattle.rules.specs.Refusals.{answered_count, answered_refusal};
 
 use crate::refusals::CallRefusal;
 
@@ -17,7 +17,7 @@ pub enum Answer {
 impl Answer {
     /// The count of steps that a closing or finishing answered.
     pub fn count(self) -> Option<u16>
-        ensures { result ≡ answered-count self }
+        ensures { result ≡ answered_count self }
     {
         match self {
             Answer::Steps(count) => Some(count),
@@ -27,7 +27,7 @@ impl Answer {
 
     /// The number by which the outside world knows the refusal.
     pub fn refusal(self) -> Option<u8>
-        ensures { result ≡ answered-refusal self }
+        ensures { result ≡ answered_refusal self }
     {
         match self {
             Answer::Refused(refusal) => Some(refusal.number()),

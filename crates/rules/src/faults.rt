@@ -1,7 +1,7 @@
 //! Why a program is not accepted: faults of reading, of a statement, of the program.
 ghost use Rattle.std.specs.Prelude.{◌≡◌};
 ghost use Rattle.rules.specs.declared.faults.StatementFault.TheVariants.{Reading};
-ghost use Rattle.rules.specs.Faults.{reading-number, reading-place, statement-number, statement-place, load-number, load-place, load-layer, load-site};
+ghost use Rattle.rules.specs.Faults.{reading_number, reading_place, statement_number, statement_place, load_number, load_place, load_layer, load_site};
 
 /// The layer that found a fault.
 #[derive(Clone, Copy, PartialEq, Eq, Debug)]
@@ -57,7 +57,7 @@ impl From<ReadingFault> for StatementFault {
 impl ReadingFault {
     /// The number by which the outside world knows the fault.
     pub fn number(self) -> u8
-        ensures { result ≡ reading-number self }
+        ensures { result ≡ reading_number self }
     {
         match self {
             ReadingFault::Cut(_) => 2,
@@ -67,7 +67,7 @@ impl ReadingFault {
 
     /// The byte of the program that it is at.
     pub fn place(self) -> usize
-        ensures { result ≡ reading-place self }
+        ensures { result ≡ reading_place self }
     {
         match self {
             ReadingFault::Cut(place) => place,
@@ -79,7 +79,7 @@ impl ReadingFault {
 impl StatementFault {
     /// The number by which the outside world knows the fault.
     pub fn number(self) -> u8
-        ensures { result ≡ statement-number self }
+        ensures { result ≡ statement_number self }
     {
         match self {
             StatementFault::Reading(fault) => fault.number(),
@@ -92,7 +92,7 @@ impl StatementFault {
 
     /// The byte of the program that it is at.
     pub fn place(self) -> usize
-        ensures { result ≡ statement-place self }
+        ensures { result ≡ statement_place self }
     {
         match self {
             StatementFault::Reading(fault) => fault.place(),
@@ -107,7 +107,7 @@ impl StatementFault {
 impl LoadFault {
     /// The number by which the outside world knows the fault.
     pub fn number(self) -> u8
-        ensures { result ≡ load-number self }
+        ensures { result ≡ load_number self }
     {
         match self {
             LoadFault::BadLength => 1,
@@ -121,7 +121,7 @@ impl LoadFault {
 
     /// The byte of the program that it is at; 0 where no byte is meant.
     pub fn place(self) -> usize
-        ensures { result ≡ load-place self }
+        ensures { result ≡ load_place self }
     {
         match self {
             LoadFault::BadLength => 0,
@@ -135,7 +135,7 @@ impl LoadFault {
 
     /// The layer that found it.
     pub fn layer(self) -> Layer
-        ensures { result ≡ load-layer self }
+        ensures { result ≡ load_layer self }
     {
         match self {
             LoadFault::BadLength => Layer::Program,
@@ -150,7 +150,7 @@ impl LoadFault {
 
     /// The statement that it was met in and its thread, where there is one.
     pub fn site(self) -> Option<Site>
-        ensures { result ≡ load-site self }
+        ensures { result ≡ load_site self }
     {
         match self {
             LoadFault::Statement(_, site) => Some(site),

@@ -1,7 +1,7 @@
 //! What is promised of the rules.
-ghost use Rattle.rules.specs.Worked.{Worked-numbers};
+ghost use Rattle.rules.specs.Worked.{WorkedNumbers};
 
 /// The worked numbers are what the rules give.
 pub fn worked_numbers()
-    ensures { Worked-numbers }
+    ensures { WorkedNumbers }
 {}

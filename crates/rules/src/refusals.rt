@@ -1,6 +1,6 @@
 //! Why a call is refused.
 ghost use Rattle.std.specs.Prelude.{◌≡◌};
-ghost use Rattle.rules.specs.Refusals.{call-number};
+ghost use Rattle.rules.specs.Refusals.{call_number};
 
 use crate::faults::LoadFault;
 
@@ -22,7 +22,7 @@ pub enum CallRefusal {
 impl CallRefusal {
     /// The number by which the outside world knows the refusal.
     pub fn number(self) -> u8
-        ensures { result ≡ call-number self }
+        ensures { result ≡ call_number self }
     {
         match self {
             CallRefusal::Program(fault) => fault.number(),

@@ -16,9 +16,9 @@ module _ {T : Type 0} (ps : List T) (b : ℕ) where
       ∙ ap reverse (take_more_set (drop b ps) d x k)
       ∙ reverse-append (take d (drop b ps)) (x ∷ [])
 
-  pub last-first : (d : ℕ) (x : T) → (d ≡ 0 → ⊥) → b + d ≤ length ps → x ≡ get_or ps (b + d - 1) x → reverse (take d (drop b ps)) ≡ x ∷ reverse (take (d - 1) (drop b ps))
-  last-first zero x n h e = absurd (n refl)
-  last-first (suc d) x n h e =
+  pub last_first : (d : ℕ) (x : T) → (d ≡ 0 → ⊥) → b + d ≤ length ps → x ≡ get_or ps (b + d - 1) x → reverse (take d (drop b ps)) ≡ x ∷ reverse (take (d - 1) (drop b ps))
+  last_first zero x n h e = absurd (n refl)
+  last_first (suc d) x n h e =
       let k : d < length (drop b ps) = omega (arith, length-drop b ps) in
       let place : b + suc d - 1 ≡ b + d = omega arith in
       let one : suc d ≡ d + 1 = omega arith in

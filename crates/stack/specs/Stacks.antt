@@ -13,19 +13,19 @@ module _ {T : Type 0} where
   room s = length s.places.now - s.base
 
   -- The places before the base are no part of the stack.
-  abbrev pub before-base : Stack T → List T
-  before-base s = take s.base s.places.now
+  abbrev pub before_base : Stack T → List T
+  before_base s = take s.base s.places.now
 
   -- What place i holds, if it is a place before the base.
-  abbrev pub place-before : Stack T → ℕ → Option T
-  place-before s i = slice_get (before-base s) i
+  abbrev pub place_before : Stack T → ℕ → Option T
+  place_before s i = slice_get (before_base s) i
 
 -- A pop takes the value that was pushed last, and none where nothing is stacked.
-abbrev pub popped-value : {T : Type 0} → List T → Option T
-popped-value [] = None
-popped-value (x ∷ xs) = Some x
+abbrev pub popped_value : {T : Type 0} → List T → Option T
+popped_value [] = None
+popped_value (x ∷ xs) = Some x
 
 -- A pop leaves the other values; of nothing it leaves nothing.
-abbrev pub popped-rest : {T : Type 0} → List T → List T
-popped-rest [] = []
-popped-rest (x ∷ xs) = xs
+abbrev pub popped_rest : {T : Type 0} → List T → List T
+popped_rest [] = []
+popped_rest (x ∷ xs) = xs

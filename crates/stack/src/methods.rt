@@ -1,6 +1,6 @@
 //! Making a stack, and pushing and popping values.
 ghost use Rattle.std.specs.Prelude.{◌≡◌, ◌+◌, ◌-◌, ◌<◌, [], ◌∷◌, length, take, is_ok, if◌then◌else◌, nat_lt, slice_index_or, slice_set};
-ghost use Rattle.stack.specs.Stacks.{stacked, room, before-base, popped-value, popped-rest, place-before};
+ghost use Rattle.stack.specs.Stacks.{stacked, room, before_base, popped_value, popped_rest, place_before};
 
 use crate::Stack;
 
@@ -13,7 +13,7 @@ impl<'a, T: Copy> Stack<'a, T> {
     pub fn new(places: &'a mut [T], base: usize) -> Stack<'a, T>
         ensures empty { stacked result ≡ [] }
         ensures room { room result ≡ length places.old - base }
-        ensures before { before-base result ≡ take base places.old }
+        ensures before { before_base result ≡ take base places.old }
         ensures memory { result.places.now ≡ places.old }
         ensures lender { result.places.ghost_name ≡ places.entry.ghost_name }
     {
@@ -39,7 +39,7 @@ impl<'a, T: Copy> Stack<'a, T> {
         ensures stacked { stacked self.new ≡ (if is_ok result then value ∷ stacked self.old else stacked self.old) }
         ensures memory { self.new.places.now ≡ (if is_ok result then slice_set self.old.places.now (self.old.base + self.old.depth) value else self.old.places.now) }
         ensures room { room self.new ≡ room self.old }
-        ensures before { before-base self.new ≡ before-base self.old }
+        ensures before { before_base self.new ≡ before_base self.old }
         ensures lender { self.new.places.ghost_name ≡ self.old.places.ghost_name }
     {
         let end = self.base + self.depth;
@@ -53,11 +53,11 @@ impl<'a, T: Copy> Stack<'a, T> {
 
     /// The value that was pushed last, taken off; none, and nothing changed, where the stack is empty.
     pub fn pop(&mut self) -> Option<T>
-        ensures answer { result ≡ popped-value (stacked self.old) }
-        ensures stacked { stacked self.new ≡ popped-rest (stacked self.old) }
+        ensures answer { result ≡ popped_value (stacked self.old) }
+        ensures stacked { stacked self.new ≡ popped_rest (stacked self.old) }
         ensures memory { self.new.places.now ≡ self.old.places.now }
         ensures room { room self.new ≡ room self.old }
-        ensures before { before-base self.new ≡ before-base self.old }
+        ensures before { before_base self.new ≡ before_base self.old }
         ensures lender { self.new.places.ghost_name ≡ self.old.places.ghost_name }
     {
         if self.depth == 0 {
@@ -80,7 +80,7 @@ impl<'a, T: Copy> Stack<'a, T> {
 
     /// The value of a place before the base, if there is such a place.
     pub fn before_base(&self, place: usize) -> Option<T>
-        ensures { result ≡ place-before self.now place }
+        ensures { result ≡ place_before self.now place }
     {
         if place >= self.base {
             return None;

@@ -21,8 +21,8 @@ module _ {X : Type 0} where
       omega arith
 
   -- Two parts, one behind the other, are one part.
-  pub over-both : (n m : ℕ) (R S T : List X) → length R ≡ m → n + m ≤ length T → over (n + m) S (over n R T) ≡ over n (R ++ S) T
-  over-both n m R S T e h =
+  pub over_both : (n m : ℕ) (R S T : List X) → length R ≡ m → n + m ≤ length T → over (n + m) S (over n R T) ≡ over n (R ++ S) T
+  over_both n m R S T e h =
       let A = take n T in
       let D = drop (n + length R) T in
       let c = length-take-le n T (omega arith) in

@@ -7,8 +7,8 @@ use Rattle.table.specs.declared.rows.Task.TheVariants.{Nothing}
 use Rattle.table.specs.declared.rows.Row.{Row}
 
 -- The row that stands where no statement is yet: it does nothing, at place 0 of thread 0, in no block and before no statement.
-abbrev pub blank-row : Row
-blank-row = record { task = Nothing; place = 0; thread = 0; inside = None; next = None }
+abbrev pub blank_row : Row
+blank_row = record { task = Nothing; place = 0; thread = 0; inside = None; next = None }
 
 -- The table after the rows of a statement's blocks are set, in order.
 abbrev mutual

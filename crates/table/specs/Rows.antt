@@ -1,7 +1,7 @@
 -- The table of a program's statements: a row for each, in reading order.
 use Rattle.std.specs.Prelude.{ℕ, ◌+◌, List, [], ◌∷◌, ◌++◌, length, Some, None, Option}
 use Rattle.evaluator.specs.Commands.{written}
-use Rattle.rules.specs.Numbering.{Mark, Step, Text, first-arm, second-arm, text_of}
+use Rattle.rules.specs.Numbering.{Mark, Step, Text, first_arm, second_arm, text_of}
 use Rattle.rules.specs.Text.{Expression, nothing, assign, pause, branch, loop, par, abort, end, ◌then◌, Program}
 use Rattle.table.specs.declared.rows.Code.{Code}
 use Rattle.table.specs.declared.rows.Arm.{Arm}
@@ -35,7 +35,7 @@ task (assign a v e) = Set v (code a 3 e)
 task (pause a) = Pause
 task (branch a e X Y) = If (code a 2 e) (first_of X) (first_of Y)
 task (loop a bound e X) = Loop bound (code a 3 e) (first_of X)
-task (par a X Y) = Par (record { thread = first-arm a; first = first_of X }) (record { thread = second-arm a X; first = first_of Y })
+task (par a X Y) = Par (record { thread = first_arm a; first = first_of X }) (record { thread = second_arm a X; first = first_of Y })
 task (abort a w i e X) = Abort w i (code a 3 e) (first_of X)
 
 -- The row of a statement that stands in the block of statement `inside`, if in one, and is followed by statement `next` there, if by one.

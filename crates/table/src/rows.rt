@@ -1,6 +1,6 @@
 //! What a controller knows of each statement.
 ghost use Rattle.std.specs.Prelude.{◌≡◌};
-ghost use Rattle.table.specs.Filling.{blank-row};
+ghost use Rattle.table.specs.Filling.{blank_row};
 
 /// An expression: a part of the program's bytes.
 #[derive(Clone, Copy, PartialEq, Eq, Debug)]
@@ -41,7 +41,7 @@ pub struct Row {
 impl Row {
     /// The row that stands where no statement is yet.
     pub fn blank() -> Row
-        ensures { result ≡ blank-row }
+        ensures { result ≡ blank_row }
     {
         Row {
             task: Task::Nothing,

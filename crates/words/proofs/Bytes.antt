@@ -2,44 +2,44 @@
 use Rattle.std.proofs.Common.{◌≡◌, ℕ, ◌-◌, ◌≤◌, List, [], ◌∷◌, ◌++◌, length, get_or, take, drop, Some, None, Option, sym, refl, ap, ◌∙◌, append_assoc, append-nil, arith}
 use Rattle.std.proofs.lemmas.List.{take_all}
 use Rattle.std.specs.Option.{option_map}
-use Rattle.words.specs.Hexadecimal.{digit_value, pair-value, byte-before, bytes-in}
+use Rattle.words.specs.Hexadecimal.{digit_value, pair_value, byte_before, bytes_in}
 
 -- Bytes before others, if those can be read.
-abbrev pub before-some : List ℕ → Option (List ℕ) → Option (List ℕ)
-before-some xs o = option_map (λ more. xs ++ more) o
+abbrev pub before_some : List ℕ → Option (List ℕ) → Option (List ℕ)
+before_some xs o = option_map (λ more. xs ++ more) o
 
-nothing-before-some : (o : Option (List ℕ)) → o ≡ before-some [] o
-nothing-before-some None = refl
-nothing-before-some (Some x) = refl
+nothing_before_some : (o : Option (List ℕ)) → o ≡ before_some [] o
+nothing_before_some None = refl
+nothing_before_some (Some x) = refl
 
-byte-joins : (bs : List ℕ) (b : ℕ) (o : Option (List ℕ)) → before-some bs (byte-before (Some b) o) ≡ before-some (bs ++ (b ∷ [])) o
-byte-joins bs b None = refl
-byte-joins bs b (Some more) = ap Some (sym (append_assoc bs (b ∷ []) more))
+byte_joins : (bs : List ℕ) (b : ℕ) (o : Option (List ℕ)) → before_some bs (byte_before (Some b) o) ≡ before_some (bs ++ (b ∷ [])) o
+byte_joins bs b None = refl
+byte_joins bs b (Some more) = ap Some (sym (append_assoc bs (b ∷ []) more))
 
 -- The bytes read so far, and what is left of the word.
-abbrev pub Bytes-so-far : List ℕ → List ℕ → List ℕ → Type 0
-Bytes-so-far word bs rest = bytes-in word ≡ before-some bs (bytes-in rest)
+abbrev pub BytesSoFar : List ℕ → List ℕ → List ℕ → Type 0
+BytesSoFar word bs rest = bytes_in word ≡ before_some bs (bytes_in rest)
 
-pub bytes-none : (word bs : List ℕ) → bs ≡ [] → Bytes-so-far word bs word
-bytes-none word bs e = nothing-before-some (bytes-in word) ∙ ap (λ xs. before-some xs (bytes-in word)) (sym e)
+pub bytes_none : (word bs : List ℕ) → bs ≡ [] → BytesSoFar word bs word
+bytes_none word bs e = nothing_before_some (bytes_in word) ∙ ap (λ xs. before_some xs (bytes_in word)) (sym e)
 
-pub bytes-more : (word bs new rest : List ℕ) (h l b : ℕ) (after : List ℕ) → Bytes-so-far word bs rest → rest ≡ h ∷ l ∷ after → pair-value (digit_value h) (digit_value l) ≡ Some b → new ≡ bs ++ (b ∷ []) → Bytes-so-far word new after
-bytes-more word bs new rest h l b after inv cut e pushed =
-    inv ∙ ap (λ xs. before-some bs (bytes-in xs)) cut ∙ ap (λ o. before-some bs (byte-before o (bytes-in after))) e ∙ byte-joins bs b (bytes-in after)
-    ∙ ap (λ xs. before-some xs (bytes-in after)) (sym pushed)
+pub bytes_more : (word bs new rest : List ℕ) (h l b : ℕ) (after : List ℕ) → BytesSoFar word bs rest → rest ≡ h ∷ l ∷ after → pair_value (digit_value h) (digit_value l) ≡ Some b → new ≡ bs ++ (b ∷ []) → BytesSoFar word new after
+bytes_more word bs new rest h l b after inv cut e pushed =
+    inv ∙ ap (λ xs. before_some bs (bytes_in xs)) cut ∙ ap (λ o. before_some bs (byte_before o (bytes_in after))) e ∙ byte_joins bs b (bytes_in after)
+    ∙ ap (λ xs. before_some xs (bytes_in after)) (sym pushed)
 
-pub bytes-spoilt : (word bs rest : List ℕ) (h l : ℕ) (after : List ℕ) → Bytes-so-far word bs rest → rest ≡ h ∷ l ∷ after → pair-value (digit_value h) (digit_value l) ≡ None → bytes-in word ≡ None
-bytes-spoilt word bs rest h l after inv cut e =
-    inv ∙ ap (λ xs. before-some bs (bytes-in xs)) cut ∙ ap (λ o. before-some bs (byte-before o (bytes-in after))) e
+pub bytes_spoilt : (word bs rest : List ℕ) (h l : ℕ) (after : List ℕ) → BytesSoFar word bs rest → rest ≡ h ∷ l ∷ after → pair_value (digit_value h) (digit_value l) ≡ None → bytes_in word ≡ None
+bytes_spoilt word bs rest h l after inv cut e =
+    inv ∙ ap (λ xs. before_some bs (bytes_in xs)) cut ∙ ap (λ o. before_some bs (byte_before o (bytes_in after))) e
 
-pub bytes-all : (word bs rest : List ℕ) → Bytes-so-far word bs rest → length rest ≡ 0 → bytes-in word ≡ Some bs
-bytes-all word bs [] inv e = inv ∙ ap Some (append-nil bs)
-bytes-all word bs (b ∷ rest) inv e = absurd (omega arith)
+pub bytes_all : (word bs rest : List ℕ) → BytesSoFar word bs rest → length rest ≡ 0 → bytes_in word ≡ Some bs
+bytes_all word bs [] inv e = inv ∙ ap Some (append-nil bs)
+bytes_all word bs (b ∷ rest) inv e = absurd (omega arith)
 
-pub bytes-odd : (word bs rest : List ℕ) → Bytes-so-far word bs rest → length rest ≡ 1 → bytes-in word ≡ None
-bytes-odd word bs [] inv e = absurd (omega arith)
-bytes-odd word bs (b ∷ []) inv e = inv
-bytes-odd word bs (b ∷ c ∷ rest) inv e = absurd (omega arith)
+pub bytes_odd : (word bs rest : List ℕ) → BytesSoFar word bs rest → length rest ≡ 1 → bytes_in word ≡ None
+bytes_odd word bs [] inv e = absurd (omega arith)
+bytes_odd word bs (b ∷ []) inv e = inv
+bytes_odd word bs (b ∷ c ∷ rest) inv e = absurd (omega arith)
 
 -- The first two bytes of a slice, and the rest as a slice pattern hands it out.
 pub two_bytes : (xs : List ℕ) → 2 ≤ length xs → xs ≡ get_or xs 0 0 ∷ get_or xs 1 0 ∷ take (length xs - 2) (drop 2 xs)

@@ -7,9 +7,9 @@ use Rattle.words.specs.Splitting.{First, Words, texts}
 pub first_of : (bs w rest : List ℕ) → (gap : List ℕ) × (bs ≡ gap ++ (w ++ rest)) × (0 < length w) × NoCharPasses is_not_whitespace gap × NoCharPasses is_whitespace w × ((more : List ℕ) × EmptyOrStartsWithPassing is_whitespace rest more) → First bs w rest
 first_of bs w rest cut = record { gap = cut.0; cut = cut.1; some = cut.2; blank = cut.3; solid = cut.4; ends = cut.5 }
 
-texts-push : (ws : List (Bor (List ℕ))) (w : Bor (List ℕ)) → texts (ws ++ (w ∷ [])) ≡ texts ws ++ (w.now ∷ [])
-texts-push [] w = refl
-texts-push (v ∷ ws) w = ap (λ xs. v.now ∷ xs) (texts-push ws w)
+texts_push : (ws : List (Bor (List ℕ))) (w : Bor (List ℕ)) → texts (ws ++ (w ∷ [])) ≡ texts ws ++ (w.now ∷ [])
+texts_push [] w = refl
+texts_push (v ∷ ws) w = ap (λ xs. v.now ∷ xs) (texts_push ws w)
 
 -- The words so far and those of the rest are the words of the text.
 pub record Sofar (text rest : List ℕ) (ws : List (Bor (List ℕ))) : Type 0 where
@@ -21,7 +21,7 @@ none_yet text ws e = record { joins = λ more h. subst (λ (xs : List (Bor (List
 pub one_more : (text rest after : List ℕ) (ws new : List (Bor (List ℕ))) (w : Bor (List ℕ)) → Sofar text rest ws → First rest w.now after → new ≡ ws ++ (w ∷ []) → Sofar text after new
 one_more text rest after ws new w old first pushed = record {
   joins = λ more h.
-      subst (λ (xs : List (List ℕ)). Words text xs) (sym (append_assoc (texts ws) (w.now ∷ []) more) ∙ ap (λ xs. xs ++ more) (sym (ap texts pushed ∙ texts-push ws w)))
+      subst (λ (xs : List (List ℕ)). Words text xs) (sym (append_assoc (texts ws) (w.now ∷ []) more) ∙ ap (λ xs. xs ++ more) (sym (ap texts pushed ∙ texts_push ws w)))
       (old.joins (w.now ∷ more) (after, first, h));
 }
 

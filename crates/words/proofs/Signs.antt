@@ -6,7 +6,7 @@ use Rattle.std.proofs.lemmas.Bool.Decides.{Decides-and, Decides-ltb}
 use Rattle.std.specs.Result.{OkIff, result_ok}
 use Rattle.std.specs.Str.Parse.{digits_value, starts_with_minus, without_leading_plus, ParsesSigned}
 use Rattle.std.specs.Str.{all_ascii_digits}
-use Rattle.words.specs.Decimal.{numeral, decimal-in}
+use Rattle.words.specs.Decimal.{numeral, decimal_in}
 
 own : IsNumeralModel (λ ds. all_ascii_digits ds ≡ true) (digits_value 10)
 own = numerals_by_value _ tells_all_ascii_digits
@@ -19,41 +19,41 @@ tested (Err e) true P n d h = absurd (h (d.0 refl))
 tested (Err e) false P n d h = refl
 
 -- Three tests at once.
-decides-three : {P Q R : Type 0} (x y z : Bool) → Decides x P → Decides y Q → Decides z R → Decides ((x && y) && z) (P × Q × R)
-decides-three x y z p q r =
+decides_three : {P Q R : Type 0} (x y z : Bool) → Decides x P → Decides y Q → Decides z R → Decides ((x && y) && z) (P × Q × R)
+decides_three x y z p q r =
     let both = Decides-and (x && y) z (Decides-and x y p q) r in
     (λ e. ((both.0 e).0.0, (both.0 e).0.1, (both.0 e).1), λ h. both.1 ((h.0, h.1), h.2))
 
 -- The digits of a number up to a bound.
-digits-up-to : (ds : List ℕ) (bound : ℕ) → Decides (numeral ds && leb (digits_value 10 ds) bound) ((all_ascii_digits ds ≡ true) × (0 < length ds) × (digits_value 10 ds ≤ bound))
-digits-up-to ds bound =
-    decides-three (all_ascii_digits ds) (ltb 0 (length ds)) (leb (digits_value 10 ds) bound) ((λ e. e), (λ e. e)) (Decides-ltb 0 (length ds)) (leb-true (digits_value 10 ds) bound, le-leb (digits_value 10 ds) bound)
+digits_up_to : (ds : List ℕ) (bound : ℕ) → Decides (numeral ds && leb (digits_value 10 ds) bound) ((all_ascii_digits ds ≡ true) × (0 < length ds) × (digits_value 10 ds ≤ bound))
+digits_up_to ds bound =
+    decides_three (all_ascii_digits ds) (ltb 0 (length ds)) (leb (digits_value 10 ds) bound) ((λ e. e), (λ e. e)) (Decides-ltb 0 (length ds)) (leb-true (digits_value 10 ds) bound, le-leb (digits_value 10 ds) bound)
 
 -- The digits of a number below a bound.
-digits-below : (ds : List ℕ) (bound : ℕ) → Decides (numeral ds && ltb (digits_value 10 ds) bound) ((all_ascii_digits ds ≡ true) × (0 < length ds) × (digits_value 10 ds < bound))
-digits-below ds bound =
-    decides-three (all_ascii_digits ds) (ltb 0 (length ds)) (ltb (digits_value 10 ds) bound) ((λ e. e), (λ e. e)) (Decides-ltb 0 (length ds)) (Decides-ltb (digits_value 10 ds) bound)
+digits_below : (ds : List ℕ) (bound : ℕ) → Decides (numeral ds && ltb (digits_value 10 ds) bound) ((all_ascii_digits ds ≡ true) × (0 < length ds) × (digits_value 10 ds < bound))
+digits_below ds bound =
+    decides_three (all_ascii_digits ds) (ltb 0 (length ds)) (ltb (digits_value 10 ds) bound) ((λ e. e), (λ e. e)) (Decides-ltb 0 (length ds)) (Decides-ltb (digits_value 10 ds) bound)
 
 module _ {E : Type 0} (w : List ℕ) (r : Result ℤ E) (h : ParsesSigned w32 10 w r) where
-  with-minus : starts_with_minus w ≡ true → result_ok r ≡ decimal-in w
-  with-minus e =
-      tested r _ _ _ (digits-up-to (drop 1 w) (2 ^ 31)) (parse_signed_minus own w32 w r h (eqb-true (get_or w 0 0) 45 e)) ∙ sym (cond-true (starts_with_minus w) _ _ e)
+  with_minus : starts_with_minus w ≡ true → result_ok r ≡ decimal_in w
+  with_minus e =
+      tested r _ _ _ (digits_up_to (drop 1 w) (2 ^ 31)) (parse_signed_minus own w32 w r h (eqb-true (get_or w 0 0) 45 e)) ∙ sym (cond-true (starts_with_minus w) _ _ e)
 
   -- The digits after an optional plus.
   unsigned : List ℕ → Type 0
   unsigned ds = result_ok r ≡ cond (numeral ds && ltb (digits_value 10 ds) (2 ^ 31)) (Some (pos (digits_value 10 ds))) None
 
-  without-minus : starts_with_minus w ≡ false → result_ok r ≡ decimal-in w
+  without_minus : starts_with_minus w ≡ false → result_ok r ≡ decimal_in w
   unfolding unsigned
-  without-minus e =
+  without_minus e =
       ⊎_elim
       (λ p.
       let plus = eqb-true (get_or w 0 0) 43 p in
-      subst unsigned (sym (without_leading_plus_plus w plus)) (tested r _ _ _ (digits-below (drop 1 w) (2 ^ 31)) (parse_signed_plus own w32 w r h plus)) ∙ sym (cond-false (starts_with_minus w) _ _ e))
+      subst unsigned (sym (without_leading_plus_plus w plus)) (tested r _ _ _ (digits_below (drop 1 w) (2 ^ 31)) (parse_signed_plus own w32 w r h plus)) ∙ sym (cond-false (starts_with_minus w) _ _ e))
       (λ p.
       let plain = eqb-false (get_or w 0 0) 43 p in
-      subst unsigned (sym (without_leading_plus_none w plain)) (tested r _ _ _ (digits-below w (2 ^ 31)) (parse_signed_plain own w32 w r h plain (eqb-false (get_or w 0 0) 45 e))) ∙ sym (cond-false (starts_with_minus w) _ _ e))
+      subst unsigned (sym (without_leading_plus_none w plain)) (tested r _ _ _ (digits_below w (2 ^ 31)) (parse_signed_plain own w32 w r h plain (eqb-false (get_or w 0 0) 45 e))) ∙ sym (cond-false (starts_with_minus w) _ _ e))
       (cases_Bool (eqb (get_or w 0 0) 43))
 
-  pub parsed-decimal : result_ok r ≡ decimal-in w
-  parsed-decimal = ⊎_elim with-minus without-minus (cases_Bool (starts_with_minus w))
+  pub parsed_decimal : result_ok r ≡ decimal_in w
+  parsed_decimal = ⊎_elim with_minus without_minus (cases_Bool (starts_with_minus w))

@@ -11,23 +11,23 @@ abbrev pub numeral : List ℕ → Bool
 numeral ds = all_ascii_digits ds && nat_lt 0 (length ds)
 
 -- After a minus a numeral of at most 2^31; else, after an optional plus, one below 2^31.
-abbrev pub decimal-in : List ℕ → Option ℤ
-decimal-in w =
+abbrev pub decimal_in : List ℕ → Option ℤ
+decimal_in w =
     cond (starts_with_minus w)
     (cond (numeral (drop 1 w) && nat_le (digits_value 10 (drop 1 w)) (2 ^ 31)) (Some (neg_ℤ (pos (digits_value 10 (drop 1 w))))) None)
     (cond (numeral (without_leading_plus w) && nat_lt (digits_value 10 (without_leading_plus w)) (2 ^ 31)) (Some (pos (digits_value 10 (without_leading_plus w)))) None)
 
 -- A word that is no number is a problem, with the word's place in its line.
 abbrev pub number_at : ℕ → List ℕ → Result ℤ Problem
-number_at place w = ok_or (decimal-in w) (NotANumber place)
+number_at place w = ok_or (decimal_in w) (NotANumber place)
 
 -- A number before others; the first problem counts.
-abbrev pub number-before : Result ℤ Problem → Result (List ℤ) Problem → Result (List ℤ) Problem
-number-before (Err e) ns = Err e
-number-before (Ok n) (Err e) = Err e
-number-before (Ok n) (Ok ns) = Ok (n ∷ ns)
+abbrev pub number_before : Result ℤ Problem → Result (List ℤ) Problem → Result (List ℤ) Problem
+number_before (Err e) ns = Err e
+number_before (Ok n) (Err e) = Err e
+number_before (Ok n) (Ok ns) = Ok (n ∷ ns)
 
 -- Words are numbers in turn, the first at that place in the line.
-abbrev pub numbers-from : ℕ → List (List ℕ) → Result (List ℤ) Problem
-numbers-from place [] = Ok []
-numbers-from place (w ∷ ws) = number-before (number_at place w) (numbers-from (place + 1) ws)
+abbrev pub numbers_from : ℕ → List (List ℕ) → Result (List ℤ) Problem
+numbers_from place [] = Ok []
+numbers_from place (w ∷ ws) = number_before (number_at place w) (numbers_from (place + 1) ws)

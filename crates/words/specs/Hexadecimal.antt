@@ -11,27 +11,27 @@ digit_value c =
     cond (nat_le 48 c && nat_le c 57) (Some (c - 48)) (cond (nat_le 97 c && nat_le c 102) (Some (c - 87)) (cond (nat_le 65 c && nat_le c 70) (Some (c - 55)) None))
 
 -- Two digits stand for sixteen times the first and the second.
-abbrev pub pair-value : Option ℕ → Option ℕ → Option ℕ
-pair-value None low = None
-pair-value (Some h) None = None
-pair-value (Some h) (Some l) = Some (h * 16 + l)
+abbrev pub pair_value : Option ℕ → Option ℕ → Option ℕ
+pair_value None low = None
+pair_value (Some h) None = None
+pair_value (Some h) (Some l) = Some (h * 16 + l)
 
 -- A byte before others, if all could be read.
-abbrev pub byte-before : Option ℕ → Option (List ℕ) → Option (List ℕ)
-byte-before None bs = None
-byte-before (Some b) None = None
-byte-before (Some b) (Some bs) = Some (b ∷ bs)
+abbrev pub byte_before : Option ℕ → Option (List ℕ) → Option (List ℕ)
+byte_before None bs = None
+byte_before (Some b) None = None
+byte_before (Some b) (Some bs) = Some (b ∷ bs)
 
 -- The bytes of pairs of digits; an odd character, or one that is no digit, spoils the word.
-abbrev pub bytes-in : List ℕ → Option (List ℕ)
-bytes-in [] = Some []
-bytes-in (c ∷ []) = None
-bytes-in (h ∷ l ∷ cs) = byte-before (pair-value (digit_value h) (digit_value l)) (bytes-in cs)
+abbrev pub bytes_in : List ℕ → Option (List ℕ)
+bytes_in [] = Some []
+bytes_in (c ∷ []) = None
+bytes_in (h ∷ l ∷ cs) = byte_before (pair_value (digit_value h) (digit_value l)) (bytes_in cs)
 
 -- A word that is not pairs of digits is a problem, with the word's place in its line.
-abbrev pub bytes-at : ℕ → List ℕ → Result (List ℕ) Problem
-bytes-at place w = ok_or (bytes-in w) (NotHexadecimal place)
+abbrev pub bytes_at : ℕ → List ℕ → Result (List ℕ) Problem
+bytes_at place w = ok_or (bytes_in w) (NotHexadecimal place)
 
 -- The word `-` stands for no bytes; any other word stands for its bytes.
-abbrev pub expression-at : ℕ → List ℕ → Result (List ℕ) Problem
-expression-at place w = cond (bytes_eq w (codes "-")) (Ok []) (bytes-at place w)
+abbrev pub expression_at : ℕ → List ℕ → Result (List ℕ) Problem
+expression_at place w = cond (bytes_eq w (codes "-")) (Ok []) (bytes_at place w)

@@ -1,12 +1,12 @@
 //! Decimal words: signed 32-bit numbers.
 ghost use Rattle.std.specs.Prelude.{◌≡◌};
-ghost use Rattle.words.specs.Decimal.{decimal-in, number_at};
+ghost use Rattle.words.specs.Decimal.{decimal_in, number_at};
 
 use crate::problem::Problem;
 
 /// The number of a decimal word, if it is one of signed 32 bits.
 pub fn decimal(word: &str) -> Option<i32>
-    ensures { result ≡ decimal-in word.now }
+    ensures { result ≡ decimal_in word.now }
 {
     word.parse::<i32>().ok()
 }

@@ -1,6 +1,6 @@
 //! Hexadecimal words: pairs of digits.
 ghost use Rattle.std.specs.Prelude.{◌≡◌, ◌<◌, IfSome, vec_items};
-ghost use Rattle.words.specs.Hexadecimal.{digit_value, pair-value, bytes-at, expression-at};
+ghost use Rattle.words.specs.Hexadecimal.{digit_value, pair_value, bytes_at, expression_at};
 ghost use Rattle.words.specs.Outcomes.{Gives};
 
 use crate::problem::Problem;
@@ -21,7 +21,7 @@ pub fn digit_value(character: u8) -> Option<u8>
 
 /// The byte of two hexadecimal digits.
 pub fn pair_value(high: u8, low: u8) -> Option<u8>
-    ensures { result ≡ pair-value (digit_value high) (digit_value low) }
+    ensures { result ≡ pair_value (digit_value high) (digit_value low) }
 {
     let high = digit_value(high)?;
     let low = digit_value(low)?;
@@ -30,7 +30,7 @@ pub fn pair_value(high: u8, low: u8) -> Option<u8>
 
 /// The bytes of a hexadecimal word, the one at this place in its line.
 pub fn bytes_at(heap: Global, place: usize, word: &str) -> Result<Vec<u8>, Problem>
-    ensures { Gives vec_items (bytes-at place word.now) result }
+    ensures { Gives vec_items (bytes_at place word.now) result }
 {
     let mut bytes = Vec::new(heap);
     let mut rest = word.as_bytes();
@@ -48,7 +48,7 @@ pub fn bytes_at(heap: Global, place: usize, word: &str) -> Result<Vec<u8>, Probl
 
 /// The bytes of an expression: a hexadecimal word, or `-` for none.
 pub fn expression_at(heap: Global, place: usize, word: &str) -> Result<Vec<u8>, Problem>
-    ensures { Gives vec_items (expression-at place word.now) result }
+    ensures { Gives vec_items (expression_at place word.now) result }
 {
     if word == "-" {
         Ok(Vec::new(heap))

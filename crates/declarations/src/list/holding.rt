@@ -1,6 +1,6 @@
 //! Holds declarations in order, and lends them.
 ghost use Rattle.std.specs.Prelude.{◌≡◌, ◌<◌, ◌≤◌, [], ◌∷◌, ◌++◌, length};
-ghost use Rattle.declarations.specs.Declaring.{variable-of, variables-of};
+ghost use Rattle.declarations.specs.Declaring.{variable_of, variables_of};
 ghost use Rattle.declarations.specs.Listing.{listed};
 
 use crate::declaration::Declaration;
@@ -19,7 +19,7 @@ impl Declarations {
 
     /// The declarations in order.
     pub fn as_slice(&self) -> &[Declaration]
-        ensures same { variables-of result.now ≡ listed self.now }
+        ensures same { variables_of result.now ≡ listed self.now }
         ensures few { length result.now ≤ 32 }
     {
         &self.list[..self.count]
@@ -28,7 +28,7 @@ impl Declarations {
     // One declaration more, behind the others.
     pub(crate) fn push(&mut self, declaration: Declaration)
         requires { length (listed self.old) < 32 }
-        ensures { listed self.new ≡ listed self.old ++ variable-of declaration ∷ [] }
+        ensures { listed self.new ≡ listed self.old ++ variable_of declaration ∷ [] }
     {
         self.list[self.count] = declaration;
         self.count += 1;

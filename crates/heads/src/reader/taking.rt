@@ -1,8 +1,8 @@
 //! Takes bytes and parts from the front of what a reader has left. Where the block has too few bytes, that is a cut at the statement's place.
 ghost use Rattle.std.specs.Prelude.{◌≡◌, ◌+◌, ◌-◌, min, max, length, take};
 ghost use Rattle.evaluator.specs.Outcomes.{mapped};
-ghost use Rattle.rules.specs.Reading.{byte-in, part_in, code_in, length-in};
-ghost use Rattle.heads.specs.Readers.{left-of, statement-place, number-left, part_left, Command-taken, Same-block};
+ghost use Rattle.rules.specs.Reading.{byte_in, part_in, code_in, length_in};
+ghost use Rattle.heads.specs.Readers.{left_of, statement_place, number_left, part_left, CommandTaken, SameBlock};
 
 use crate::reader::{MOST_BYTES, Reader};
 use rules::faults::ReadingFault;
@@ -24,7 +24,7 @@ impl<'a> Reader<'a> {
 
     /// The bytes from the place to the end of the block.
     pub fn left(&self) -> &'a [u8]
-        ensures { result.now ≡ left-of self.now }
+        ensures { result.now ≡ left_of self.now }
     {
         &self.program[self.place..self.end]
     }
@@ -45,15 +45,15 @@ impl<'a> Reader<'a> {
 
     /// The place of the statement whose command was just taken.
     pub fn statement(&self) -> usize
-        ensures { result ≡ statement-place self.now }
+        ensures { result ≡ statement_place self.now }
     {
         self.place.saturating_sub(1)
     }
 
     /// The command byte of the next statement; none at the end of the block.
     pub fn command(&mut self) -> Option<u8>
-        ensures answer { Command-taken (left-of self.old) (left-of self.new) result }
-        ensures block { Same-block self.old self.new }
+        ensures answer { CommandTaken (left_of self.old) (left_of self.new) result }
+        ensures block { SameBlock self.old self.new }
     {
         let [command, rest @ ..] = self.left() else {
             return None;
@@ -64,8 +64,8 @@ impl<'a> Reader<'a> {
 
     /// The byte operand, if one is wanted.
     pub fn byte(&mut self, wanted: bool, statement: usize) -> Result<u8, ReadingFault>
-        ensures answer { mapped (number-left (left-of self.new)) result ≡ byte-in statement wanted (left-of self.old) }
-        ensures block { Same-block self.old self.new }
+        ensures answer { mapped (number_left (left_of self.new)) result ≡ byte_in statement wanted (left_of self.old) }
+        ensures block { SameBlock self.old self.new }
     {
         if !wanted {
             return Ok(0);
@@ -81,8 +81,8 @@ impl<'a> Reader<'a> {
 
     /// So many bytes, as a part of the program.
     pub fn part(&mut self, long: usize, statement: usize) -> Result<&'a [u8], ReadingFault>
-        ensures answer { mapped (part_left (left-of self.new)) result ≡ part_in statement long (left-of self.old) }
-        ensures block { Same-block self.old self.new }
+        ensures answer { mapped (part_left (left_of self.new)) result ≡ part_in statement long (left_of self.old) }
+        ensures block { SameBlock self.old self.new }
     {
         let left = self.left();
         if long > left.len() {
@@ -95,8 +95,8 @@ impl<'a> Reader<'a> {
 
     /// The bytes of the expression, if one is wanted, as a part of the program.
     pub fn code(&mut self, wanted: bool, statement: usize) -> Result<&'a [u8], ReadingFault>
-        ensures answer { mapped (part_left (left-of self.new)) result ≡ code_in statement wanted (left-of self.old) }
-        ensures block { Same-block self.old self.new }
+        ensures answer { mapped (part_left (left_of self.new)) result ≡ code_in statement wanted (left_of self.old) }
+        ensures block { SameBlock self.old self.new }
     {
         if !wanted {
             return Ok(&self.program[0..0]);
@@ -112,8 +112,8 @@ impl<'a> Reader<'a> {
 
     /// The length of a block, low byte first, if one is wanted.
     pub fn length(&mut self, wanted: bool, statement: usize) -> Result<usize, ReadingFault>
-        ensures answer { mapped (number-left (left-of self.new)) result ≡ length-in statement wanted (left-of self.old) }
-        ensures block { Same-block self.old self.new }
+        ensures answer { mapped (number_left (left_of self.new)) result ≡ length_in statement wanted (left_of self.old) }
+        ensures block { SameBlock self.old self.new }
     {
         if !wanted {
             return Ok(0);
@@ -138,7 +138,7 @@ impl<'a> Reader<'a> {
 
     /// The block at hand becomes that of the next so many bytes, or of fewer where there are fewer.
     pub fn enter(&mut self, long: usize)
-        ensures left { left-of self.new ≡ take long (left-of self.old) }
+        ensures left { left_of self.new ≡ take long (left_of self.old) }
         ensures program { self.new.program.now ≡ self.old.program.now }
         ensures place { self.new.place ≡ self.old.place }
         ensures end { self.new.end ≡ min (self.old.place + long) self.old.end }

@@ -1,6 +1,6 @@
 //! Begins a survey, and notes rows in it.
 ghost use Rattle.std.specs.Prelude.{◌≡◌, ◌<◌, replicate, Ok, slice_set};
-ghost use Rattle.table.specs.Filling.{blank-row};
+ghost use Rattle.table.specs.Filling.{blank_row};
 
 use crate::survey::Survey;
 use heads::counts::Counts;
@@ -11,7 +11,7 @@ impl Survey {
     pub(crate) fn new() -> Survey
         ensures counts { result.counts ≡ record { statements = 0; pars = 0; threads = 1 } }
         ensures pausing { result.pausing ≡ Ok tt }
-        ensures rows { result.rows ≡ replicate 512 blank-row }
+        ensures rows { result.rows ≡ replicate 512 blank_row }
     {
         Survey {
             counts: Counts {

@@ -2,22 +2,22 @@
 use Rattle.std.proofs.Common.{◌+◌, length, get_or, ap, ◌∙◌}
 use Rattle.std.proofs.lemmas.List.{length_push}
 use Rattle.std.proofs.lemmas.Result.{err_from_is_err_and}
-use Rattle.declarations.specs.Declaring.{variable-of}
+use Rattle.declarations.specs.Declaring.{variable_of}
 use Rattle.declarations.specs.Listing.{listed}
-use Rattle.declarations.proofs.InOrder.{turn-read, turn-refused}
+use Rattle.declarations.proofs.InOrder.{turn_read, turn_refused}
 use Rattle.declarations.proofs.program.read_declarations.Goals as goal
 
 pub returns-in-err-declaration : goal.returns-in-err-declaration
 returns-in-err-declaration c =
     let p = c.args.program.now in
     let r = err_from_is_err_and c.from-residual.result c.from-residual.ensures.1 in
-    rw (r.1, r.2) (turn-refused p (listed c.loop-i.declarations) (get_or p 0 0) c.loop-i.i c.loop-i-test.true c.loop-i.invariant.1 _ c.in-err-declaration.ensures)
+    rw (r.1, r.2) (turn_refused p (listed c.loop-i.declarations) (get_or p 0 0) c.loop-i.i c.loop-i-test.true c.loop-i.invariant.1 _ c.in-err-declaration.ensures)
 
 pub loop-i-preserved : goal.loop-i-preserved
 loop-i-preserved c =
     let p = c.args.program.now in
     let ds = listed c.loop-i.declarations in
-    let d = variable-of c.in-ok-declaration.declaration in (
+    let d = variable_of c.in-ok-declaration.declaration in (
       ap length c.push.ensures ∙ length_push ds d ∙ ap (λ n. n + 1) c.loop-i.invariant.0,
-      turn-read p ds (get_or p 0 0) c.loop-i.i c.loop-i-test.true c.loop-i.invariant.1 d _ c.in-ok-declaration.ensures c.push.ensures,
+      turn_read p ds (get_or p 0 0) c.loop-i.i c.loop-i-test.true c.loop-i.invariant.1 d _ c.in-ok-declaration.ensures c.push.ensures,
     )

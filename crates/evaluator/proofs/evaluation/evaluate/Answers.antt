@@ -3,8 +3,8 @@ use Rattle.std.proofs.lemmas.Result.{err_from_is_err_and}
 use Rattle.std.proofs.lemmas.Bool.{eqb-false}
 use Rattle.evaluator.specs.Evaluating.{only}
 use Rattle.evaluator.specs.Outcomes.{and_then}
-use Rattle.stack.specs.Stacks.{stacked, before-base}
-use Rattle.evaluator.proofs.Whole.{variables-kept, answer-is}
+use Rattle.stack.specs.Stacks.{stacked, before_base}
+use Rattle.evaluator.proofs.Whole.{variables_kept, answer_is}
 use Rattle.evaluator.proofs.evaluation.evaluate.Goals as goal
 
 pub returns-in-err-run-commands : goal.returns-in-err-run-commands
@@ -21,9 +21,9 @@ returns-in-err-run-commands g c =
     let p = err_from_is_err_and c.from-residual.result c.from-residual.ensures.1 in
     let before = ran.before ∙ made.before in
     let lender = ran.lender ∙ made.lender in
-    let kept = λ (x : List g.row.A-Value.Denot). variables-kept m x c.run-commands.new.stack long before in
+    let kept = λ (x : List g.row.A-Value.Denot). variables_kept m x c.run-commands.new.stack long before in
     record {
-      answer = p.1 ∙ ap Err p.2 ∙ answer-is M (g.S.Scope.places c.args.scope.now) m (before-base c.new-stack.result) bs (Err c.in-err-run-commands.field-0.0) long some few made.before ran.answer;
+      answer = p.1 ∙ ap Err p.2 ∙ answer_is M (g.S.Scope.places c.args.scope.now) m (before_base c.new-stack.result) bs (Err c.in-err-run-commands.field-0.0) long some few made.before ran.answer;
       variables = kept _ (c.in-err-run-commands.memory·1·own.given.1.1 (sym lender));
       refused = λ no_length. absurd (no_length long);
     }
@@ -42,9 +42,9 @@ returns g c =
     let few : length bs ≤ 64 = omega arith in
     let before = left.before ∙ ran.before ∙ made.before in
     let lender = left.lender ∙ ran.lender ∙ made.lender in
-    let kept = λ (x : List g.row.A-Value.Denot). variables-kept m x c.remaining.new.stack long before in
+    let kept = λ (x : List g.row.A-Value.Denot). variables_kept m x c.remaining.new.stack long before in
     record {
-      answer = left.answer ∙ answer-is M (g.S.Scope.places c.args.scope.now) m (before-base c.new-stack.result) bs (Ok (stacked c.run-commands.new.stack)) long some few made.before ran.answer;
+      answer = left.answer ∙ answer_is M (g.S.Scope.places c.args.scope.now) m (before_base c.new-stack.result) bs (Ok (stacked c.run-commands.new.stack)) long some few made.before ran.answer;
       variables = kept _ (c.memory-2·1.given.1.1 (sym lender));
       refused = λ no_length. absurd (no_length long);
     }

@@ -1,7 +1,7 @@
 use Rattle.std.proofs.Common.{◌≡◌, ◌≤◌, length, sym, ◌∙◌, arith}
 use Rattle.arithmetic.specs.Meaning.{two}
 use Rattle.stack.specs.Stacks.{stacked}
-use Rattle.evaluator.proofs.Performing.{within-room, two-operated}
+use Rattle.evaluator.proofs.Performing.{within_room, two_operated}
 use Rattle.evaluator.proofs.evaluation.operate_on_two.Goals as goal
 
 pub returns : goal.returns
@@ -11,9 +11,9 @@ returns g c =
     let second = c.in-Some.ensures in
     let first = c.in-Some-pop.ensures in
     let pushed = c.stack-value.ensures in
-    let full : length (stacked s) ≤ 16 = omega (arith, within-room s, c.requires) in
+    let full : length (stacked s) ≤ 16 = omega (arith, within_room s, c.requires) in
     record {
-      answer = two-operated c.args.place (λ x y. M.operated (two c.args.operator x y)) (stacked s) (stacked c.pop.new.self) (stacked c.pop-2.new.self)
+      answer = two_operated c.args.place (λ x y. M.operated (two c.args.operator x y)) (stacked s) (stacked c.pop.new.self) (stacked c.pop-2.new.self)
           c.in-Some-pop.first c.in-Some.second c.binary.result _ full
           second.answer second.stacked first.answer first.stacked c.binary.ensures pushed.answer;
       room = pushed.room ∙ first.room ∙ second.room;

@@ -2,10 +2,10 @@ use Rattle.std.proofs.Common.{◌≡◌, ℕ, ◌<◌, ◌≤◌, length, get_or
 use Rattle.std.proofs.lemmas.Result.{err_from_is_err_and, IfOk-from_err}
 use Rattle.std.proofs.lemmas.Int.{to_z-of_z}
 use Rattle.std.proofs.lemmas.Bool.{eqb-false}
-use Rattle.evaluator.specs.Commands.{Command, constant, variable, operator, inversion, signed_of, next-command}
-use Rattle.evaluator.specs.Evaluating.{value-at, stack-one}
-use Rattle.stack.specs.Stacks.{stacked, before-base}
-use Rattle.evaluator.proofs.Taking.{from, constant-first, variable-first, inversion-first, operator-first, operators-cover, taken-ok, taken-break, shorter-one, shorter-more, operator-positive}
+use Rattle.evaluator.specs.Commands.{Command, constant, variable, operator, inversion, signed_of, next_command}
+use Rattle.evaluator.specs.Evaluating.{value_at, stack_one}
+use Rattle.stack.specs.Stacks.{stacked, before_base}
+use Rattle.evaluator.proofs.Taking.{from, constant_first, variable_first, inversion_first, operator_first, operators_cover, taken_ok, taken_break, shorter_one, shorter_more, operator_positive}
 use Rattle.evaluator.proofs.evaluation.perform.Goals as goal
 
 pub returns-in-err-stack-variable : goal.returns-in-err-stack-variable
@@ -13,13 +13,13 @@ returns-in-err-stack-variable g c =
     let M = g.A.Arithmetic.meaning c.args.arithmetic.now in
     let s = c.args.stack.now in
     let bs = c.args.code.now in
-    let look : ℕ → _ = λ v. value-at (before-base s) (g.S.Scope.places c.args.scope.now v) in
+    let look : ℕ → _ = λ v. value_at (before_base s) (g.S.Scope.places c.args.scope.now v) in
     let e = c.in-err-stack-variable.ensures in
     let p = err_from_is_err_and c.from-residual-in-err-stack-variable.result c.from-residual-in-err-stack-variable.ensures.1 in
     let full = eqb-false _ _ (sym c.is-empty.ensures ∙ c.if-not-is-empty.true) in
     let some : 1 ≤ length (from 1 bs) = omega arith in
     record {
-      answer = taken-break M look c.args.place (next-command bs) _ _ (stacked s) _ _ _ _ p.1 p.2 (variable-first bs c.in-65.is some) e.answer;
+      answer = taken_break M look c.args.place (next_command bs) _ _ (stacked s) _ _ _ _ p.1 p.2 (variable_first bs c.in-65.is some) e.answer;
       shorter = IfOk-from_err _ _ c.from-residual-in-err-stack-variable.ensures.0;
       room = e.room;
       before = e.before;
@@ -27,14 +27,14 @@ returns-in-err-stack-variable g c =
     }
 
 pub returns-in-default-from-byte : goal.returns-in-default-from-byte
-returns-in-default-from-byte g c = absurd (operators-cover _ (omega arith) (omega arith) c.in-default-from-byte.ensures)
+returns-in-default-from-byte g c = absurd (operators_cover _ (omega arith) (omega arith) c.in-default-from-byte.ensures)
 
 pub returns-in-ok-stack-value : goal.returns-in-ok-stack-value
 returns-in-ok-stack-value g c =
     let M = g.A.Arithmetic.meaning c.args.arithmetic.now in
     let s = c.args.stack.now in
     let bs = c.args.code.now in
-    let look : ℕ → _ = λ v. value-at (before-base s) (g.S.Scope.places c.args.scope.now v) in
+    let look : ℕ → _ = λ v. value_at (before_base s) (g.S.Scope.places c.args.scope.now v) in
     let e = c.in-ok-stack-value.ensures in
     let r = from 1 bs in
     let number : c.from-le-bytes-number.result ≡ signed_of (get_or r 0 0) (get_or r 1 0) (get_or r 2 0) (get_or r 3 0) = c.from-le-bytes-number.ensures in
@@ -42,9 +42,9 @@ returns-in-ok-stack-value g c =
     let made : ◌≡◌ {A = g.row.A-Value.Denot} c.constant.result (M.constant (to_z w32 (of_z w32 c.from-le-bytes-number.result))) = c.constant.ensures in
     let value = made ∙ ap M.constant (to_z-of_z w32 c.from-le-bytes-number.result fits ∙ number) in
     record {
-      answer = taken-ok M look c.args.place (next-command bs) _ _ (stacked s) (stacked c.stack-value.new.stack) (constant-first bs c.in-64.is c.if-rest-ge4.true)
-          (e.answer ∙ ap (λ x. stack-one c.args.place x (stacked s)) value);
-      shorter = shorter-more bs 4 0x40 c.in-64.is (omega arith);
+      answer = taken_ok M look c.args.place (next_command bs) _ _ (stacked s) (stacked c.stack-value.new.stack) (constant_first bs c.in-64.is c.if-rest-ge4.true)
+          (e.answer ∙ ap (λ x. stack_one c.args.place x (stacked s)) value);
+      shorter = shorter_more bs 4 0x40 c.in-64.is (omega arith);
       room = e.room;
       before = e.before;
       lender = e.lender;
@@ -55,13 +55,13 @@ returns-in-ok-stack-variable g c =
     let M = g.A.Arithmetic.meaning c.args.arithmetic.now in
     let s = c.args.stack.now in
     let bs = c.args.code.now in
-    let look : ℕ → _ = λ v. value-at (before-base s) (g.S.Scope.places c.args.scope.now v) in
+    let look : ℕ → _ = λ v. value_at (before_base s) (g.S.Scope.places c.args.scope.now v) in
     let e = c.in-ok-stack-variable.ensures in
     let full = eqb-false _ _ (sym c.is-empty.ensures ∙ c.if-not-is-empty.true) in
     let some : 1 ≤ length (from 1 bs) = omega arith in
     record {
-      answer = taken-ok M look c.args.place (next-command bs) _ _ (stacked s) (stacked c.stack-variable.new.stack) (variable-first bs c.in-65.is some) e.answer;
-      shorter = shorter-more bs 1 0x41 c.in-65.is (omega arith);
+      answer = taken_ok M look c.args.place (next_command bs) _ _ (stacked s) (stacked c.stack-variable.new.stack) (variable_first bs c.in-65.is some) e.answer;
+      shorter = shorter_more bs 1 0x41 c.in-65.is (omega arith);
       room = e.room;
       before = e.before;
       lender = e.lender;
@@ -72,11 +72,11 @@ returns-in-ok-operate-on-one g c =
     let M = g.A.Arithmetic.meaning c.args.arithmetic.now in
     let s = c.args.stack.now in
     let bs = c.args.code.now in
-    let look : ℕ → _ = λ v. value-at (before-base s) (g.S.Scope.places c.args.scope.now v) in
+    let look : ℕ → _ = λ v. value_at (before_base s) (g.S.Scope.places c.args.scope.now v) in
     let e = c.in-ok-operate-on-one.ensures in
     record {
-      answer = taken-ok M look c.args.place (next-command bs) inversion (from 1 bs) (stacked s) (stacked c.operate-on-one.new.stack) (inversion-first bs c.in-73.is) e.answer;
-      shorter = shorter-one bs 0x49 c.in-73.is (omega arith);
+      answer = taken_ok M look c.args.place (next_command bs) inversion (from 1 bs) (stacked s) (stacked c.operate-on-one.new.stack) (inversion_first bs c.in-73.is) e.answer;
+      shorter = shorter_one bs 0x49 c.in-73.is (omega arith);
       room = e.room;
       before = e.before;
       lender = e.lender;
@@ -87,11 +87,11 @@ returns-in-ok-operate-on-two g c =
     let M = g.A.Arithmetic.meaning c.args.arithmetic.now in
     let s = c.args.stack.now in
     let bs = c.args.code.now in
-    let look : ℕ → _ = λ v. value-at (before-base s) (g.S.Scope.places c.args.scope.now v) in
+    let look : ℕ → _ = λ v. value_at (before_base s) (g.S.Scope.places c.args.scope.now v) in
     let e = c.in-ok-operate-on-two.ensures in
     record {
-      answer = taken-ok M look c.args.place (next-command bs) (operator c.in-Some.operator) (from 1 bs) (stacked s) (stacked c.operate-on-two.new.stack) (operator-first bs c.in-Some.operator c.in-Some.ensures) e.answer;
-      shorter = shorter-one bs _ (sym c.in-Some.ensures) (operator-positive c.in-Some.operator);
+      answer = taken_ok M look c.args.place (next_command bs) (operator c.in-Some.operator) (from 1 bs) (stacked s) (stacked c.operate-on-two.new.stack) (operator_first bs c.in-Some.operator c.in-Some.ensures) e.answer;
+      shorter = shorter_one bs _ (sym c.in-Some.ensures) (operator_positive c.in-Some.operator);
       room = e.room;
       before = e.before;
       lender = e.lender;

@@ -1,7 +1,7 @@
 -- The first command, each further one, and a fault that a command has.
 use Rattle.std.proofs.Common.{Err, ap, ◌∙◌, rules}
 use Rattle.std.proofs.lemmas.Result.{err_from_is_err_and}
-use Rattle.declarations.specs.Declaring.{variables-of}
+use Rattle.declarations.specs.Declaring.{variables_of}
 use Rattle.heads.proofs.Commands.{begun, one_more, stopped}
 use Rattle.heads.proofs.expression.check_expression.Goals as goal
 
@@ -15,4 +15,4 @@ pub returns-in-err-stacked : goal.returns-in-err-stacked
 returns-in-err-stacked c =
     let f = err_from_is_err_and c.from-residual.result c.from-residual.ensures.1 in
     f.1 ∙ ap Err f.2
-    ∙ stopped (variables-of c.args.declarations.now) c.args.thread c.args.from c.args.statement c.args.code.now c.loop-left.left.now c.loop-left.depth _ c.loop-left.invariant (search rules) c.in-err-stacked.ensures.answer
+    ∙ stopped (variables_of c.args.declarations.now) c.args.thread c.args.from c.args.statement c.args.code.now c.loop-left.left.now c.loop-left.depth _ c.loop-left.invariant (search rules) c.in-err-stacked.ensures.answer

@@ -1,11 +1,11 @@
 -- What holds of the commands left.
 use Rattle.std.proofs.Common.{length}
-use Rattle.declarations.specs.Declaring.{variables-of}
-use Rattle.heads.proofs.Commands.{Checked-to}
+use Rattle.declarations.specs.Declaring.{variables_of}
+use Rattle.heads.proofs.Commands.{CheckedTo}
 use Rattle.heads.proofs.expression.check_expression.Given as goal
 
 abbrev pub invariant-loop-left : goal.invariant-loop-left
-invariant-loop-left l = Checked-to (variables-of l.declarations) l.thread l.from l.statement l.code l.left l.depth
+invariant-loop-left l = CheckedTo (variables_of l.declarations) l.thread l.from l.statement l.code l.left l.depth
 
 abbrev pub decreases-loop-left : goal.decreases-loop-left
 decreases-loop-left l = length l.left

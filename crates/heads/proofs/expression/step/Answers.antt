@@ -1,19 +1,19 @@
 -- One command, by its first byte.
 use Rattle.std.proofs.Common.{rules}
-use Rattle.heads.proofs.Commands.{constant-step, variable-step, variable-wrong, operator-step, inversion-step}
+use Rattle.heads.proofs.Commands.{constant_step, variable_step, variable_wrong, operator_step, inversion_step}
 use Rattle.heads.proofs.expression.step.Goals as goal
 
 pub returns-in-64 : goal.returns-in-64
-returns-in-64 c = search (rules, constant-step)
+returns-in-64 c = search (rules, constant_step)
 
 pub returns-then-not-may-read : goal.returns-then-not-may-read
-returns-then-not-may-read c = search (rules, variable-wrong)
+returns-then-not-may-read c = search (rules, variable_wrong)
 
 pub returns-else-not-may-read : goal.returns-else-not-may-read
-returns-else-not-may-read c = search (rules, variable-step)
+returns-else-not-may-read c = search (rules, variable_step)
 
 pub returns-in-66-to-72 : goal.returns-in-66-to-72
-returns-in-66-to-72 c = search (rules, operator-step)
+returns-in-66-to-72 c = search (rules, operator_step)
 
 pub returns-in-73 : goal.returns-in-73
-returns-in-73 c = search (rules, inversion-step)
+returns-in-73 c = search (rules, inversion_step)

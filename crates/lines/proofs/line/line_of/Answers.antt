@@ -1,8 +1,8 @@
 use Rattle.std.proofs.Common.{◌<◌, ◌≤◌, length, sym, ap, ◌∙◌, arith, rules}
 use Rattle.lines.specs.Lines.{said, line_of}
 use Rattle.words.specs.Splitting.{texts}
-use Rattle.lines.proofs.Asking.{gives_same, comment-line, other-line}
-use Rattle.lines.proofs.Naming.{no_word, word_at, words-from, no_items, first-item, comment-first, no-comment}
+use Rattle.lines.proofs.Asking.{gives_same, comment_line, other_line}
+use Rattle.lines.proofs.Naming.{no_word, word_at, words_from, no_items, first_item, comment_first, no_comment}
 use Rattle.lines.proofs.line.line_of.Goals as goal
 
 pub returns-in-empty : goal.returns-in-empty
@@ -13,11 +13,11 @@ returns-in-empty c =
 pub returns-in-len1-up : goal.returns-in-len1-up
 returns-in-len1-up c =
     let some : 1 ≤ length c.args.words.now = search rules in
-    ap (λ ws. line_of (texts ws)) (first-item c.args.words.now no_word some)
-    ∙ comment-line (word_at c.args.words.now 0) (words-from 1 c.args.words.now) (comment-first (word_at c.args.words.now 0) (c.if-starts-with.ensures.cases.1.byte (omega arith)))
+    ap (λ ws. line_of (texts ws)) (first_item c.args.words.now no_word some)
+    ∙ comment_line (word_at c.args.words.now 0) (words_from 1 c.args.words.now) (comment_first (word_at c.args.words.now 0) (c.if-starts-with.ensures.cases.1.byte (omega arith)))
 
 pub returns-in-len1-up-2 : goal.returns-in-len1-up-2
 returns-in-len1-up-2 c =
     let some : 1 ≤ length c.args.words.now = search rules in
-    let cut = ap (λ ws. line_of (texts ws)) (first-item c.args.words.now no_word some) in
-    gives_same said _ _ c.command-line.result (sym (cut ∙ other-line (word_at c.args.words.now 0) (words-from 1 c.args.words.now) (no-comment (word_at c.args.words.now 0) c.if-starts-with.ensures.cases))) c.command-line.ensures
+    let cut = ap (λ ws. line_of (texts ws)) (first_item c.args.words.now no_word some) in
+    gives_same said _ _ c.command_line.result (sym (cut ∙ other_line (word_at c.args.words.now 0) (words_from 1 c.args.words.now) (no_comment (word_at c.args.words.now 0) c.if-starts-with.ensures.cases))) c.command_line.ensures

@@ -1,15 +1,15 @@
 use Rattle.std.proofs.Common.{◌≡◌, [], ◌∷◌, ◌++◌, ℤ, vec_items, sym, ap, ◌∙◌, w32, to_z, of_z, rules}
-use Rattle.words.specs.Decimal.{numbers-from}
+use Rattle.words.specs.Decimal.{numbers_from}
 use Rattle.words.specs.Splitting.{texts}
-use Rattle.lines.proofs.Asking.{gives-problem, gives-memory}
-use Rattle.lines.proofs.Numbers.{numbers_more, numbers-spoilt, numbers-all}
+use Rattle.lines.proofs.Asking.{gives_problem, gives_memory}
+use Rattle.lines.proofs.Numbers.{numbers_more, numbers_spoilt, numbers_all}
 use Rattle.lines.proofs.Naming.{no_word}
 use Rattle.lines.proofs.line.numbers_in.Goals as goal
 
 pub returns-in-err-number : goal.returns-in-err-number
 returns-in-err-number c =
-    gives-problem vec_items (numbers-from 5 (texts c.args.words.now)) c.from-residual.result c.in-err-number.field-0.0 c.from-residual.ensures.1
-    (λ _. numbers-spoilt c.args.words.now _ c.loop-i.i _ c.loop-i.invariant c.loop-i-test.true _ (sym c.number-at.ensures ∙ c.in-err-number.was))
+    gives_problem vec_items (numbers_from 5 (texts c.args.words.now)) c.from-residual.result c.in-err-number.field-0.0 c.from-residual.ensures.1
+    (λ _. numbers_spoilt c.args.words.now _ c.loop-i.i _ c.loop-i.invariant c.loop-i-test.true _ (sym c.number-at.ensures ∙ c.in-err-number.was))
 
 pub loop-i-preserved : goal.loop-i-preserved
 loop-i-preserved c =
@@ -20,7 +20,7 @@ loop-i-preserved c =
 
 pub returns-in-err-push : goal.returns-in-err-push
 returns-in-err-push c =
-    gives-memory vec_items (numbers-from 5 (texts c.args.words.now)) c.from-residual-in-err-push.result c.from-residual-in-err-push.ensures.1
+    gives_memory vec_items (numbers_from 5 (texts c.args.words.now)) c.from-residual-in-err-push.result c.from-residual-in-err-push.ensures.1
 
 pub returns : goal.returns
-returns c = numbers-all c.args.words.now _ c.loop-i.i c.loop-i.invariant c.loop-i-test.false
+returns c = numbers_all c.args.words.now _ c.loop-i.i c.loop-i.invariant c.loop-i-test.false

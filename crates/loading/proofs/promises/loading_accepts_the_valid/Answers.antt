@@ -1,5 +1,5 @@
-use Rattle.loading.proofs.Whole.{loading-accepts-the-valid}
+use Rattle.loading.proofs.Whole.{loading_accepts_the_valid}
 use Rattle.loading.proofs.promises.loading_accepts_the_valid.Goals as goal
 
 pub returns : goal.returns
-returns c = loading-accepts-the-valid
+returns c = loading_accepts_the_valid

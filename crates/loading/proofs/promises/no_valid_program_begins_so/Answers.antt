@@ -1,5 +1,5 @@
-use Rattle.loading.proofs.Begins.{no-valid-program-begins-so}
+use Rattle.loading.proofs.Begins.{no_valid_program_begins_so}
 use Rattle.loading.proofs.promises.no_valid_program_begins_so.Goals as goal
 
 pub returns : goal.returns
-returns c = no-valid-program-begins-so
+returns c = no_valid_program_begins_so

@@ -3,7 +3,7 @@ use Rattle.std.proofs.lemmas.Int.{to_z-of_z}
 use Rattle.std.proofs.lemmas.Result.{err_from_is_err_and, IfOk-from_err}
 use Rattle.evaluator.specs.Outcomes.{mapped}
 use Rattle.rates.specs.Rates.{Within}
-use Rattle.rates.proofs.Sampling.{rate-is}
+use Rattle.rates.proofs.Sampling.{rate_is}
 use Rattle.rates.proofs.rate.rate_within.Goals as goal
 
 pub returns-in-err-value : goal.returns-in-err-value
@@ -16,7 +16,7 @@ returns-in-err-value g c =
     let e = c.in-err-value.ensures in
     record {
       answer = p.1 ∙ ap Err p.2 ∙ ap (mapped (M.limited c.args.limits.low c.args.limits.high)) e.answer
-          ∙ rate-is M rs m c.args.code.now c.args.limits.low c.args.limits.high long c.if-readings-gt-MOST-VARIABLES.false c.place-readings.ensures;
+          ∙ rate_is M rs m c.args.code.now c.args.limits.low c.args.limits.high long c.if-readings-gt-MOST-VARIABLES.false c.place-readings.ensures;
       within = IfOk-from_err _ _ c.from-residual.ensures.0;
     }
 
@@ -40,6 +40,6 @@ returns g c =
     let law = g.met.A.Arithmetic.limits c.args.arithmetic.now low high x c.args.limits.ordered in
     record {
       answer = ap Ok value ∙ ap (mapped (M.limited low high)) e.answer
-          ∙ rate-is M rs m c.args.code.now low high long c.if-readings-gt-MOST-VARIABLES.false c.place-readings.ensures;
+          ∙ rate_is M rs m c.args.code.now low high long c.if-readings-gt-MOST-VARIABLES.false c.place-readings.ensures;
       within = subst (Within M low high) (sym value) (law.above, law.below);
     }

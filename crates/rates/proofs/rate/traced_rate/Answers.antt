@@ -1,7 +1,7 @@
 use Rattle.std.proofs.Common.{◌≡◌, sym, ap, ◌∙◌}
 use Rattle.evaluator.specs.Outcomes.{mapped}
-use Rattle.rates.specs.Rates.{shown-number}
-use Rattle.rates.proofs.Tracing.{tracing-keeps-the-rate, absent-probes-did-not-enter}
+use Rattle.rates.specs.Rates.{shown_number}
+use Rattle.rates.proofs.Tracing.{tracing_keeps_the_rate, absent_probes_did_not_enter}
 use Rattle.rates.proofs.rate.traced_rate.Goals as goal
 
 pub returns : goal.returns
@@ -14,6 +14,6 @@ returns c =
     record {
       answer = is;
       within = c.rate-within.ensures.within;
-      number = ap (mapped shown-number) is ∙ tracing-keeps-the-rate low high bs rs;
-      probes = λ i others differ x ok absent. absent-probes-did-not-enter low high bs rs others i differ x (sym is ∙ ok) absent;
+      number = ap (mapped shown_number) is ∙ tracing_keeps_the_rate low high bs rs;
+      probes = λ i others differ x ok absent. absent_probes_did_not_enter low high bs rs others i differ x (sym is ∙ ok) absent;
     }

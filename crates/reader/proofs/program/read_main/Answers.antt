@@ -1,16 +1,16 @@
 -- Main's block that was read, and the fault that reading it found.
 use Rattle.std.proofs.Common.{Err, refl, ap, ◌∙◌, rules}
 use Rattle.std.proofs.lemmas.Result.{err_from_is_err_and}
-use Rattle.declarations.specs.Declaring.{variables-of}
-use Rattle.reader.proofs.Mains.{bytes_of, main-read, main-stopped}
+use Rattle.declarations.specs.Declaring.{variables_of}
+use Rattle.reader.proofs.Mains.{bytes_of, main_read, main_stopped}
 use Rattle.reader.proofs.program.read_main.Goals as goal
 
 pub returns : goal.returns
 returns c =
     let f = c.in-ok-extent.ensures in let r = c.new-reader.ensures in
-    main-read (variables-of c.args.declarations.now) c.args.from c.args.program.now (search rules) (search rules) c.new-reader.result r.program r.end r.place (bytes_of c.args.program.now c.type-inv.program) c.in-ok-extent.extent c.read-block.new.survey.counts _ _ refl f.answer f.noted
+    main_read (variables_of c.args.declarations.now) c.args.from c.args.program.now (search rules) (search rules) c.new-reader.result r.program r.end r.place (bytes_of c.args.program.now c.type-inv.program) c.in-ok-extent.extent c.read_block.new.survey.counts _ _ refl f.answer f.noted
 
 pub returns-in-err-extent : goal.returns-in-err-extent
 returns-in-err-extent c =
     let f = err_from_is_err_and c.from-residual.result c.from-residual.ensures.1 in let r = c.new-reader.ensures in
-    f.1 ∙ ap Err f.2 ∙ main-stopped (variables-of c.args.declarations.now) c.args.from c.args.program.now (search rules) (search rules) c.new-reader.result r.program r.end r.place _ c.in-err-extent.ensures.answer
+    f.1 ∙ ap Err f.2 ∙ main_stopped (variables_of c.args.declarations.now) c.args.from c.args.program.now (search rules) (search rules) c.new-reader.result r.program r.end r.place _ c.in-err-extent.ensures.answer

@@ -1,6 +1,6 @@
 -- The first byte of what is left.
 use Rattle.std.proofs.Common.{refl, rules}
-use Rattle.heads.proofs.Lefts.{rest-short, command-taken, none_left, onward}
+use Rattle.heads.proofs.Lefts.{rest_short, command_taken, none_left, onward}
 use Rattle.heads.proofs.reader.Reader.command.Goals as goal
 
 pub returns-in-default : goal.returns-in-default
@@ -9,7 +9,7 @@ returns-in-default c =
     record { answer = (none, none); block = search rules }
 
 pub overflow-sub-self : goal.overflow-sub-self
-overflow-sub-self c = rest-short c.args.self.now.program.now c.args.self.now.place c.args.self.now.end c.args.self.now.within c.args.self.now.inside c.left.result.now c.left.ensures 1
+overflow-sub-self c = rest_short c.args.self.now.program.now c.args.self.now.place c.args.self.now.end c.args.self.now.within c.args.self.now.inside c.left.result.now c.left.ensures 1
 
 pub returns : goal.returns
-returns c = record { answer = command-taken c.args.self.now.program.now c.args.self.now.place c.args.self.now.end c.args.self.now.within c.args.self.now.inside c.left.result.now c.left.ensures (search rules); block = record { program = refl; end = refl; onward = onward c.args.self.now.program.now c.args.self.now.place c.args.self.now.end c.args.self.now.within c.args.self.now.inside c.left.result.now c.left.ensures 1 (search rules) } }
+returns c = record { answer = command_taken c.args.self.now.program.now c.args.self.now.place c.args.self.now.end c.args.self.now.within c.args.self.now.inside c.left.result.now c.left.ensures (search rules); block = record { program = refl; end = refl; onward = onward c.args.self.now.program.now c.args.self.now.place c.args.self.now.end c.args.self.now.within c.args.self.now.inside c.left.result.now c.left.ensures 1 (search rules) } }

@@ -1,10 +1,10 @@
 -- The first bytes of what is left.
 use Rattle.std.proofs.Common.{refl, rules}
-use Rattle.heads.proofs.Lefts.{rest-short, length_taken, onward}
+use Rattle.heads.proofs.Lefts.{rest_short, length_taken, onward}
 use Rattle.heads.proofs.reader.Reader.length.Goals as goal
 
 pub overflow-sub-self : goal.overflow-sub-self
-overflow-sub-self c = rest-short c.args.self.now.program.now c.args.self.now.place c.args.self.now.end c.args.self.now.within c.args.self.now.inside c.left.result.now c.left.ensures 2
+overflow-sub-self c = rest_short c.args.self.now.program.now c.args.self.now.place c.args.self.now.end c.args.self.now.within c.args.self.now.inside c.left.result.now c.left.ensures 2
 
 pub returns-in-len2-up : goal.returns-in-len2-up
 returns-in-len2-up c =

@@ -1,14 +1,14 @@
 -- The first bytes of what is left.
 use Rattle.std.proofs.Common.{refl, rules}
-use Rattle.heads.proofs.Lefts.{rest-short, part-taken, onward}
+use Rattle.heads.proofs.Lefts.{rest_short, part_taken, onward}
 use Rattle.heads.proofs.reader.Reader.part.Goals as goal
 
 pub overflow-sub-self : goal.overflow-sub-self
-overflow-sub-self c = rest-short c.args.self.now.program.now c.args.self.now.place c.args.self.now.end c.args.self.now.within c.args.self.now.inside c.left-left.result.now c.left-left.ensures c.args.long
+overflow-sub-self c = rest_short c.args.self.now.program.now c.args.self.now.place c.args.self.now.end c.args.self.now.within c.args.self.now.inside c.left-left.result.now c.left-left.ensures c.args.long
 
 pub returns : goal.returns
 returns c =
     record {
-      answer = part-taken c.args.self.now.program.now c.args.self.now.place c.args.self.now.end c.args.self.now.within c.args.self.now.inside c.left-left.result.now c.left-left.ensures c.args.statement c.args.long (search rules);
+      answer = part_taken c.args.self.now.program.now c.args.self.now.place c.args.self.now.end c.args.self.now.within c.args.self.now.inside c.left-left.result.now c.left-left.ensures c.args.statement c.args.long (search rules);
       block = record { program = refl; end = refl; onward = onward c.args.self.now.program.now c.args.self.now.place c.args.self.now.end c.args.self.now.within c.args.self.now.inside c.left-left.result.now c.left-left.ensures c.args.long (search rules) };
     }

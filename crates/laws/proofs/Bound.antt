@@ -1,6 +1,6 @@
 -- The steps of a tick never exceed the tick length.
 use Rattle.std.proofs.Common.{◌≡◌, ℕ, zero, suc, ◌+◌, ◌-◌, ◌*◌, ◌<◌, ◌≤◌, max, Bool, true, false, cond, not, ◌&&◌, ◌||◌, T, eqb, ltb, List, [], ◌∷◌, length, Some, None, Option, sym, refl, ◌∙◌, subst, ap₂, le_refl, arith, eqb→eq}
-use mathlib.Core.Bool.{or_false, and-true}
+use mathlib.Core.Bool.{or-false, and-true}
 use lib.Dec.{eqb_refl}
 use Rattle.arithmetic.specs.Meaning.{Meaning}
 use Rattle.rules.specs.Going.{put, go_on, with_passes, with_mark, becomes, weak_abort, all_out, ends_weakly, goes_out}
@@ -620,7 +620,7 @@ module _ {V : Type 0} (M : Meaning V) (ds : List Variable) where
 
     -- An arm surely pauses when its text must pause.
     sure_text : (X : Text) → T (must_pause X) → T (sure X leave)
-    sure_text X h = subst T (sym (or_false (must_pause X && true) ∙ and-true (must_pause X))) h
+    sure_text X h = subst T (sym (or-false (must_pause X && true) ∙ and-true (must_pause X))) h
 
     -- The arms of a par begin so.
     starts : (n : ℕ) (X Y : Text) (m : Memo V) (F : Arms V) → Sound X 0 → Sound Y 0 → Starts n X Y (with_arms n (begins M ds m X) (begins M ds m Y) F)

@@ -9,7 +9,7 @@ returns g c =
     let s = c.args.stack.now in
     let M = g.A.Arithmetic.meaning c.args.arithmetic.now in
     let popped = c.in-Some.ensures in
-    let pushed = c.stack-value.ensures in
+    let pushed = c.stack_value.ensures in
     let full : length (stacked s) ≤ 16 = omega (arith, within_room s, c.requires) in
     record {
       answer = one_operated c.args.place (λ x. M.operated (inverse x)) (stacked s) (stacked c.pop.new.self) c.in-Some.value c.inverted.result _ full

@@ -10,7 +10,7 @@ returns g c =
     let M = g.A.Arithmetic.meaning c.args.arithmetic.now in
     let second = c.in-Some.ensures in
     let first = c.in-Some-pop.ensures in
-    let pushed = c.stack-value.ensures in
+    let pushed = c.stack_value.ensures in
     let full : length (stacked s) ≤ 16 = omega (arith, within_room s, c.requires) in
     record {
       answer = two_operated c.args.place (λ x y. M.operated (two c.args.operator x y)) (stacked s) (stacked c.pop.new.self) (stacked c.pop-2.new.self)

@@ -8,41 +8,41 @@ use Rattle.stack.specs.Stacks.{stacked, before_base}
 use Rattle.evaluator.proofs.Taking.{from, constant_first, variable_first, inversion_first, operator_first, operators_cover, taken_ok, taken_break, shorter_one, shorter_more, operator_positive}
 use Rattle.evaluator.proofs.evaluation.perform.Goals as goal
 
-pub returns-in-err-stack-variable : goal.returns-in-err-stack-variable
-returns-in-err-stack-variable g c =
+pub returns-in_err-stack_variable-in-65 : goal.returns-in_err-stack_variable-in-65
+returns-in_err-stack_variable-in-65 g c =
     let M = g.A.Arithmetic.meaning c.args.arithmetic.now in
     let s = c.args.stack.now in
     let bs = c.args.code.now in
     let look : ℕ → _ = λ v. value_at (before_base s) (g.S.Scope.places c.args.scope.now v) in
-    let e = c.in-err-stack-variable.ensures in
-    let p = err_from_is_err_and c.from-residual-in-err-stack-variable.result c.from-residual-in-err-stack-variable.ensures.1 in
-    let full = eqb-false _ _ (sym c.is-empty.ensures ∙ c.if-not-is-empty.true) in
+    let e = c.in_err-stack_variable-in-65.ensures in
+    let p = err_from_is_err_and c.from_residual-in_err-stack_variable-in-65.result c.from_residual-in_err-stack_variable-in-65.ensures.1 in
+    let full = eqb-false _ _ (sym c.is_empty.ensures ∙ c.if-not-is_empty.true) in
     let some : 1 ≤ length (from 1 bs) = omega arith in
     record {
       answer = taken_break M look c.args.place (next_command bs) _ _ (stacked s) _ _ _ _ p.1 p.2 (variable_first bs c.in-65.is some) e.answer;
-      shorter = IfOk-from_err _ _ c.from-residual-in-err-stack-variable.ensures.0;
+      shorter = IfOk-from_err _ _ c.from_residual-in_err-stack_variable-in-65.ensures.0;
       room = e.room;
       before = e.before;
       lender = e.lender;
     }
 
-pub returns-in-default-from-byte : goal.returns-in-default-from-byte
-returns-in-default-from-byte g c = absurd (operators_cover _ (omega arith) (omega arith) c.in-default-from-byte.ensures)
+pub returns-in_default-from_byte : goal.returns-in_default-from_byte
+returns-in_default-from_byte g c = absurd (operators_cover _ (omega arith) (omega arith) c.in_default-from_byte.ensures)
 
-pub returns-in-ok-stack-value : goal.returns-in-ok-stack-value
-returns-in-ok-stack-value g c =
+pub returns-in_ok-stack_value-in-64 : goal.returns-in_ok-stack_value-in-64
+returns-in_ok-stack_value-in-64 g c =
     let M = g.A.Arithmetic.meaning c.args.arithmetic.now in
     let s = c.args.stack.now in
     let bs = c.args.code.now in
     let look : ℕ → _ = λ v. value_at (before_base s) (g.S.Scope.places c.args.scope.now v) in
-    let e = c.in-ok-stack-value.ensures in
+    let e = c.in_ok-stack_value-in-64.ensures in
     let r = from 1 bs in
-    let number : c.from-le-bytes-number.result ≡ signed_of (get_or r 0 0) (get_or r 1 0) (get_or r 2 0) (get_or r 3 0) = c.from-le-bytes-number.ensures in
-    let fits : SFits w32 c.from-le-bytes-number.result = search rules in
-    let made : ◌≡◌ {A = g.row.A-Value.Denot} c.constant.result (M.constant (to_z w32 (of_z w32 c.from-le-bytes-number.result))) = c.constant.ensures in
-    let value = made ∙ ap M.constant (to_z-of_z w32 c.from-le-bytes-number.result fits ∙ number) in
+    let number : c.from_le_bytes-number.result ≡ signed_of (get_or r 0 0) (get_or r 1 0) (get_or r 2 0) (get_or r 3 0) = c.from_le_bytes-number.ensures in
+    let fits : SFits w32 c.from_le_bytes-number.result = search rules in
+    let made : ◌≡◌ {A = g.row.A-Value.Denot} c.constant.result (M.constant (to_z w32 (of_z w32 c.from_le_bytes-number.result))) = c.constant.ensures in
+    let value = made ∙ ap M.constant (to_z-of_z w32 c.from_le_bytes-number.result fits ∙ number) in
     record {
-      answer = taken_ok M look c.args.place (next_command bs) _ _ (stacked s) (stacked c.stack-value.new.stack) (constant_first bs c.in-64.is c.if-rest-ge4.true)
+      answer = taken_ok M look c.args.place (next_command bs) _ _ (stacked s) (stacked c.stack_value.new.stack) (constant_first bs c.in-64.is c.if-rest-ge4.true)
           (e.answer ∙ ap (λ x. stack_one c.args.place x (stacked s)) value);
       shorter = shorter_more bs 4 0x40 c.in-64.is (omega arith);
       room = e.room;
@@ -50,47 +50,47 @@ returns-in-ok-stack-value g c =
       lender = e.lender;
     }
 
-pub returns-in-ok-stack-variable : goal.returns-in-ok-stack-variable
-returns-in-ok-stack-variable g c =
+pub returns-in_ok-stack_variable-in-65 : goal.returns-in_ok-stack_variable-in-65
+returns-in_ok-stack_variable-in-65 g c =
     let M = g.A.Arithmetic.meaning c.args.arithmetic.now in
     let s = c.args.stack.now in
     let bs = c.args.code.now in
     let look : ℕ → _ = λ v. value_at (before_base s) (g.S.Scope.places c.args.scope.now v) in
-    let e = c.in-ok-stack-variable.ensures in
-    let full = eqb-false _ _ (sym c.is-empty.ensures ∙ c.if-not-is-empty.true) in
+    let e = c.in_ok-stack_variable-in-65.ensures in
+    let full = eqb-false _ _ (sym c.is_empty.ensures ∙ c.if-not-is_empty.true) in
     let some : 1 ≤ length (from 1 bs) = omega arith in
     record {
-      answer = taken_ok M look c.args.place (next_command bs) _ _ (stacked s) (stacked c.stack-variable.new.stack) (variable_first bs c.in-65.is some) e.answer;
+      answer = taken_ok M look c.args.place (next_command bs) _ _ (stacked s) (stacked c.stack_variable.new.stack) (variable_first bs c.in-65.is some) e.answer;
       shorter = shorter_more bs 1 0x41 c.in-65.is (omega arith);
       room = e.room;
       before = e.before;
       lender = e.lender;
     }
 
-pub returns-in-ok-operate-on-one : goal.returns-in-ok-operate-on-one
-returns-in-ok-operate-on-one g c =
+pub returns-in_ok-operate_on_one-in-73 : goal.returns-in_ok-operate_on_one-in-73
+returns-in_ok-operate_on_one-in-73 g c =
     let M = g.A.Arithmetic.meaning c.args.arithmetic.now in
     let s = c.args.stack.now in
     let bs = c.args.code.now in
     let look : ℕ → _ = λ v. value_at (before_base s) (g.S.Scope.places c.args.scope.now v) in
-    let e = c.in-ok-operate-on-one.ensures in
+    let e = c.in_ok-operate_on_one-in-73.ensures in
     record {
-      answer = taken_ok M look c.args.place (next_command bs) inversion (from 1 bs) (stacked s) (stacked c.operate-on-one.new.stack) (inversion_first bs c.in-73.is) e.answer;
+      answer = taken_ok M look c.args.place (next_command bs) inversion (from 1 bs) (stacked s) (stacked c.operate_on_one.new.stack) (inversion_first bs c.in-73.is) e.answer;
       shorter = shorter_one bs 0x49 c.in-73.is (omega arith);
       room = e.room;
       before = e.before;
       lender = e.lender;
     }
 
-pub returns-in-ok-operate-on-two : goal.returns-in-ok-operate-on-two
-returns-in-ok-operate-on-two g c =
+pub returns-in_ok-operate_on_two-in-66-to-72 : goal.returns-in_ok-operate_on_two-in-66-to-72
+returns-in_ok-operate_on_two-in-66-to-72 g c =
     let M = g.A.Arithmetic.meaning c.args.arithmetic.now in
     let s = c.args.stack.now in
     let bs = c.args.code.now in
     let look : ℕ → _ = λ v. value_at (before_base s) (g.S.Scope.places c.args.scope.now v) in
-    let e = c.in-ok-operate-on-two.ensures in
+    let e = c.in_ok-operate_on_two-in-66-to-72.ensures in
     record {
-      answer = taken_ok M look c.args.place (next_command bs) (operator c.in-Some.operator) (from 1 bs) (stacked s) (stacked c.operate-on-two.new.stack) (operator_first bs c.in-Some.operator c.in-Some.ensures) e.answer;
+      answer = taken_ok M look c.args.place (next_command bs) (operator c.in-Some.operator) (from 1 bs) (stacked s) (stacked c.operate_on_two.new.stack) (operator_first bs c.in-Some.operator c.in-Some.ensures) e.answer;
       shorter = shorter_one bs _ (sym c.in-Some.ensures) (operator_positive c.in-Some.operator);
       room = e.room;
       before = e.before;

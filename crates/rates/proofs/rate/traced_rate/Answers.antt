@@ -10,10 +10,10 @@ returns c =
     let high = c.args.limits.high in
     let bs = c.args.code.now in
     let rs = c.args.readings.now in
-    let is = c.rate-within.ensures.answer in
+    let is = c.rate_within.ensures.answer in
     record {
       answer = is;
-      within = c.rate-within.ensures.within;
+      within = c.rate_within.ensures.within;
       number = ap (mapped shown_number) is ∙ tracing_keeps_the_rate low high bs rs;
       probes = λ i others differ x ok absent. absent_probes_did_not_enter low high bs rs others i differ x (sym is ∙ ok) absent;
     }

@@ -7,17 +7,17 @@ use Rattle.declarations.specs.Listing.{listed}
 use Rattle.declarations.proofs.InOrder.{turn_read, turn_refused}
 use Rattle.declarations.proofs.program.read_declarations.Goals as goal
 
-pub returns-in-err-declaration : goal.returns-in-err-declaration
-returns-in-err-declaration c =
+pub returns-in_err-declaration : goal.returns-in_err-declaration
+returns-in_err-declaration c =
     let p = c.args.program.now in
-    let r = err_from_is_err_and c.from-residual.result c.from-residual.ensures.1 in
-    rw (r.1, r.2) (turn_refused p (listed c.loop-i.declarations) (get_or p 0 0) c.loop-i.i c.loop-i-test.true c.loop-i.invariant.1 _ c.in-err-declaration.ensures)
+    let r = err_from_is_err_and c.from_residual.result c.from_residual.ensures.1 in
+    rw (r.1, r.2) (turn_refused p (listed c.loop-i.declarations) (get_or p 0 0) c.loop-i.i c.loop-i-test.true c.loop-i.invariant.1 _ c.in_err-declaration.ensures)
 
 pub loop-i-preserved : goal.loop-i-preserved
 loop-i-preserved c =
     let p = c.args.program.now in
     let ds = listed c.loop-i.declarations in
-    let d = variable_of c.in-ok-declaration.declaration in (
+    let d = variable_of c.in_ok-declaration.declaration in (
       ap length c.push.ensures ∙ length_push ds d ∙ ap (λ n. n + 1) c.loop-i.invariant.0,
-      turn_read p ds (get_or p 0 0) c.loop-i.i c.loop-i-test.true c.loop-i.invariant.1 d _ c.in-ok-declaration.ensures c.push.ensures,
+      turn_read p ds (get_or p 0 0) c.loop-i.i c.loop-i-test.true c.loop-i.invariant.1 d _ c.in_ok-declaration.ensures c.push.ensures,
     )

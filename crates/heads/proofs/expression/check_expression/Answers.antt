@@ -9,10 +9,10 @@ pub loop-left-init : goal.loop-left-init
 loop-left-init c = search (rules, begun)
 
 pub loop-left-preserved : goal.loop-left-preserved
-loop-left-preserved c = search (rules, one_more, c.in-ok-stacked.ensures)
+loop-left-preserved c = search (rules, one_more, c.in_ok-stacked.ensures)
 
-pub returns-in-err-stacked : goal.returns-in-err-stacked
-returns-in-err-stacked c =
-    let f = err_from_is_err_and c.from-residual.result c.from-residual.ensures.1 in
+pub returns-in_err-stacked : goal.returns-in_err-stacked
+returns-in_err-stacked c =
+    let f = err_from_is_err_and c.from_residual.result c.from_residual.ensures.1 in
     f.1 ∙ ap Err f.2
-    ∙ stopped (variables_of c.args.declarations.now) c.args.thread c.args.from c.args.statement c.args.code.now c.loop-left.left.now c.loop-left.depth _ c.loop-left.invariant (search rules) c.in-err-stacked.ensures.answer
+    ∙ stopped (variables_of c.args.declarations.now) c.args.thread c.args.from c.args.statement c.args.code.now c.loop-left.left.now c.loop-left.depth _ c.loop-left.invariant (search rules) c.in_err-stacked.ensures.answer

@@ -6,11 +6,11 @@ use Rattle.heads.proofs.expression.step.Goals as goal
 pub returns-in-64 : goal.returns-in-64
 returns-in-64 c = search (rules, constant_step)
 
-pub returns-then-not-may-read : goal.returns-then-not-may-read
-returns-then-not-may-read c = search (rules, variable_wrong)
+pub returns-then-not-may_read : goal.returns-then-not-may_read
+returns-then-not-may_read c = search (rules, variable_wrong)
 
-pub returns-else-not-may-read : goal.returns-else-not-may-read
-returns-else-not-may-read c = search (rules, variable_step)
+pub returns-else-not-may_read : goal.returns-else-not-may_read
+returns-else-not-may_read c = search (rules, variable_step)
 
 pub returns-in-66-to-72 : goal.returns-in-66-to-72
 returns-in-66-to-72 c = search (rules, operator_step)

@@ -11,7 +11,7 @@ pub returns-in-Ok : goal.returns-in-Ok
 returns-in-Ok c =
     let f = c.in-Ok.ensures in
     record {
-      answer = sited (variables_of c.args.declarations.now) c.args.scope.nesting c.args.scope.thread (counted c.args.counts) c.args.command (left_of c.args.reader.now) (statement_place c.args.reader.now) (Ok (seen (left_of c.checked-head.new.reader) c.in-Ok.head)) f.answer;
+      answer = sited (variables_of c.args.declarations.now) c.args.scope.nesting c.args.scope.thread (counted c.args.counts) c.args.command (left_of c.args.reader.now) (statement_place c.args.reader.now) (Ok (seen (left_of c.checked_head.new.reader) c.in-Ok.head)) f.answer;
       fine = f.fine;
       block = f.block;
     }

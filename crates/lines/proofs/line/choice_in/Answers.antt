@@ -15,7 +15,7 @@ returns-in-len1 c =
     let few : length c.args.words.now < 2 = search rules in
     c.choice_named.ensures ∙ sym (ap (λ ws. choice_in (texts ws)) (one_item c.args.words.now _ some few))
 
-pub returns-in-default : goal.returns-in-default
-returns-in-default c =
+pub returns-in_default : goal.returns-in_default
+returns-in_default c =
     let more : 2 ≤ length c.args.words.now = search rules in
     sym (two_names c.args.words.now more)

@@ -14,10 +14,10 @@ pub returns-in-len1-up : goal.returns-in-len1-up
 returns-in-len1-up c =
     let some : 1 ≤ length c.args.words.now = search rules in
     ap (λ ws. line_of (texts ws)) (first_item c.args.words.now no_word some)
-    ∙ comment_line (word_at c.args.words.now 0) (words_from 1 c.args.words.now) (comment_first (word_at c.args.words.now 0) (c.if-starts-with.ensures.cases.1.byte (omega arith)))
+    ∙ comment_line (word_at c.args.words.now 0) (words_from 1 c.args.words.now) (comment_first (word_at c.args.words.now 0) (c.if-starts_with.ensures.cases.1.byte (omega arith)))
 
 pub returns-in-len1-up-2 : goal.returns-in-len1-up-2
 returns-in-len1-up-2 c =
     let some : 1 ≤ length c.args.words.now = search rules in
     let cut = ap (λ ws. line_of (texts ws)) (first_item c.args.words.now no_word some) in
-    gives_same said _ _ c.command_line.result (sym (cut ∙ other_line (word_at c.args.words.now 0) (words_from 1 c.args.words.now) (no_comment (word_at c.args.words.now 0) c.if-starts-with.ensures.cases))) c.command_line.ensures
+    gives_same said _ _ c.command_line.result (sym (cut ∙ other_line (word_at c.args.words.now 0) (words_from 1 c.args.words.now) (no_comment (word_at c.args.words.now 0) c.if-starts_with.ensures.cases))) c.command_line.ensures

@@ -5,14 +5,14 @@ use Rattle.words.proofs.splitting.words_of.Goals as goal
 
 pub loop-word-init : goal.loop-word-init
 loop-word-init c =
-    let whole = ap split_whitespace_rest c.into-iter-word-iterator.ensures.into-iter-gives ∙ c.split-whitespace-word-items.ensures.rest in
+    let whole = ap split_whitespace_rest c.into-iter-word-iterator.ensures.into-iter-gives ∙ c.split_whitespace-word-items.ensures.rest in
     subst (λ rest. Sofar c.args.text.now rest (vec_items c.new-words.result)) (sym whole) (none_yet c.args.text.now _ c.new-words.ensures.items)
 
 pub loop-word-preserved : goal.loop-word-preserved
 loop-word-preserved c =
     let rest = split_whitespace_rest c.loop-word.word-iterator in
     let after = split_whitespace_rest c.next.new.self in
-    one_more c.args.text.now rest after (vec_items c.loop-word.words) (vec_items c.push.new.self) c.in-Some.word c.loop-word.invariant (first_of rest c.in-Some.word.now after c.in-Some.ensures.steps) c.in-ok-push.ensures.items
+    one_more c.args.text.now rest after (vec_items c.loop-word.words) (vec_items c.push.new.self) c.in-Some.word c.loop-word.invariant (first_of rest c.in-Some.word.now after c.in-Some.ensures.steps) c.in_ok-push.ensures.items
 
 pub returns : goal.returns
 returns c = no_more _ _ _ c.loop-word.invariant c.in-None.ensures.steps.1

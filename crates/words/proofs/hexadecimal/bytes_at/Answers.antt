@@ -11,6 +11,6 @@ pub loop-rest-preserved : goal.loop-rest-preserved
 loop-rest-preserved c =
     let rest = c.loop-rest.rest.now in
     let two : 2 ≤ length rest = search rules in
-    let byte = sym c.pair_value.ensures ∙ c.ok_or.ensures.ok-part ∙ ap result_ok c.in_ok-byte.was in
+    let byte = sym c.pair_value.ensures ∙ c.ok_or.ensures.ok_part ∙ ap result_ok c.in_ok-byte.was in
     bytes_more c.args.word.now (vec_items c.loop-rest.bytes) (vec_items c.push.new.self) rest (get_or rest 0 0) (get_or rest 1 0) c.in_ok-byte.byte (take (length rest - 2) (drop 2 rest)) c.loop-rest.invariant (two_bytes rest two) byte
     c.in_ok-push.ensures.items

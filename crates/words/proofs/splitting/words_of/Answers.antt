@@ -5,7 +5,7 @@ use Rattle.words.proofs.splitting.words_of.Goals as goal
 
 pub loop-word-init : goal.loop-word-init
 loop-word-init c =
-    let whole = ap split_whitespace_rest c.into-iter-word-iterator.ensures.into-iter-gives ∙ c.split_whitespace-word-items.ensures.rest in
+    let whole = ap split_whitespace_rest c.into_iter-word-iterator.ensures.into_iter_gives ∙ c.split_whitespace-word-items.ensures.rest in
     subst (λ rest. Sofar c.args.text.now rest (vec_items c.new-words.result)) (sym whole) (none_yet c.args.text.now _ c.new-words.ensures.items)
 
 pub loop-word-preserved : goal.loop-word-preserved

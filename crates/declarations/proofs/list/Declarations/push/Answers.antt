@@ -9,11 +9,11 @@ listed c = let s = c.args.self.now in held_room s.list s.count s.long s.fits c.r
 pub bounds-self-self : goal.bounds-self-self
 bounds-self-self c = let s = c.args.self.now in omega (arith, held_room s.list s.count s.long s.fits c.requires, s.long)
 
-pub invariant-of-self : goal.invariant-of-self
-invariant-of-self c =
+pub invariant_of-self : goal.invariant_of-self
+invariant_of-self c =
     let s = c.args.self.now in
     let h : s.count + 1 ≤ 32 = omega (arith, held_room s.list s.count s.long s.fits c.requires, s.long) in
-    (length-set s.list s.count c.args.declaration ∙ s.long, (h, tt))
+    record { long = length-set s.list s.count c.args.declaration ∙ s.long; fits = h }
 
 pub returns : goal.returns
 returns c = let s = c.args.self.now in held_more s.list s.count c.args.declaration (held_room s.list s.count s.long s.fits c.requires)

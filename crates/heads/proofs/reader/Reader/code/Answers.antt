@@ -3,8 +3,8 @@ use Rattle.std.proofs.Common.{refl, arith, rules}
 use Rattle.heads.proofs.Lefts.{rest_short, code_taken, onward}
 use Rattle.heads.proofs.reader.Reader.code.Goals as goal
 
-pub overflow-sub-self : goal.overflow-sub-self
-overflow-sub-self c = rest_short c.args.self.now.program.now c.args.self.now.place c.args.self.now.end c.args.self.now.within c.args.self.now.inside c.left.result.now c.left.ensures 1
+pub overflow_sub-self : goal.overflow_sub-self
+overflow_sub-self c = rest_short c.args.self.now.program.now c.args.self.now.place c.args.self.now.end c.args.self.now.within c.args.self.now.inside c.left.result.now c.left.ensures 1
 
 pub returns-in-len1-up : goal.returns-in-len1-up
 returns-in-len1-up c =

@@ -4,6 +4,7 @@ ghost use Rattle.std.specs.Prelude.{◌≡◌, ◌+◌, ◌-◌, ◌^◌, min};
 use console::answer::Answer;
 use console::session::Session;
 use std::io::{BufRead, BufReader};
+use std::process::ExitCode;
 use std::{fmt, io};
 use words::problem::Problem;
 
@@ -61,12 +62,12 @@ fn run(rt: &HostRuntime) -> Result<(), Stop> {
     Ok(())
 }
 
-fn main(rt: HostRuntime) -> Result<(), Stop> {
+fn main(rt: HostRuntime) -> ExitCode {
     match run(&rt) {
-        Ok(()) => Ok(()),
+        Ok(()) => ExitCode::SUCCESS,
         Err(stop) => {
-            eprintln!(rt; "{stop}")?;
-            Err(stop)
+            let _ = eprintln!(rt; "{stop}");
+            ExitCode::FAILURE
         }
     }
 }

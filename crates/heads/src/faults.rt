@@ -1,6 +1,6 @@
 //! A statement's fault, with the statement and its thread added, becomes one of the program.
 ghost use Rattle.std.specs.Prelude.{◌≡◌};
-ghost use Rattle.rules.specs.declared.faults.LoadFault.TheVariants.{Statement as statement-fault};
+ghost use Rattle.rules.specs.declared.faults.LoadFault.TheVariants.{Statement as statement_fault};
 
 use rules::faults::{LoadFault, Site, StatementFault};
 
@@ -12,7 +12,7 @@ pub struct SitedFault {
 }
 
 impl From<SitedFault> for LoadFault {
-    ghost from_gives = { λ f r. r ≡ statement-fault f.fault f.site };
+    ghost from_gives = { λ f r. r ≡ statement_fault f.fault f.site };
 
     fn from(sited: SitedFault) -> LoadFault {
         LoadFault::Statement(sited.fault, sited.site)

@@ -1,14 +1,14 @@
 //! The forms of statements: their command bytes, and which operands each has.
 ghost use Rattle.std.specs.Prelude.{◌≡◌, ◌≤◌};
 ghost use Rattle.rules.specs.Encoding.{form_byte};
-ghost use Rattle.rules.specs.Forms.{forms as all-forms, has_byte, has_expression, has_block, has_second_block, par_count, flags_known};
+ghost use Rattle.rules.specs.Forms.{forms as all_forms, has_byte, has_expression, has_block, has_second_block, par_count, flags_known};
 ghost use Rattle.rules.specs.Outcomes.{numbered};
 
 use rules::program::Form;
 
 /// The form whose command byte this is.
 pub fn form_of(command: u8) -> Option<Form>
-    ensures { result ≡ numbered form_byte all-forms command }
+    ensures { result ≡ numbered form_byte all_forms command }
 {
     match command {
         0 => Some(Form::Nothing),

@@ -1,5 +1,5 @@
 -- Main's block, as the code reads it.
-use Rattle.std.proofs.Common.{◌≡◌, ℕ, zero, suc, ◌-◌, ◌<◌, ◌≤◌, min, List, [], ◌∷◌, length, get_or, take, drop, Ok, Err, Result, sym, refl, ap, ◌∙◌, subst, arith, w8, Fits}
+use Rattle.std.proofs.Common.{◌≡◌, ℕ, zero, suc, ◌-◌, ◌<◌, ◌≤◌, min, List, [], ◌∷◌, length, get_or, take, drop, None, Ok, Err, Result, sym, refl, ap, ◌∙◌, subst, arith, w8, Fits}
 use Rattle.std.specs.List.{AllByRecursion as All}
 use Rattle.std.proofs.lemmas.List.{take_rest}
 use Rattle.std.proofs.lemmas.Bool.{le-leb, and_from}
@@ -52,12 +52,12 @@ module _ (ds : List Variable) (k : ℕ) (bs : List ℕ) (few : length bs ≤ 409
   main_is : read_block ds 16 0 start (length bs) (drop k bs) ≡ main_in ds k bs
   main_is = sym (bind_ok _ _ tt (ensure_ok _ (and_from _ _ (le-leb (length bs) 4096 few) (le-leb k (length bs) within))) refl)
 
-  pub main_read : All (λ b. b < 256) bs → (x : Extent) (b : Kept) (S T : Survey) → S.pausing ≡ Ok tt → Ok (x, counted b) ≡ mapped (sum_block start) from_reader → BlockNoted from_reader (left_of r) r.place 0 0 1 S T →
+  pub main_read : All (λ b. b < 256) bs → (x : Extent) (b : Kept) (S T : Survey) → S.pausing ≡ Ok tt → Ok (x, counted b) ≡ mapped (sum_block start) from_reader → BlockNoted from_reader (left_of r) None r.place 0 0 1 S T →
       Ok (record { extent = x; counts = b; pausing = T.pausing }) ≡ mapped (summary k) (main_in ds k bs)
   main_read bytes x b S T clear so noted =
       let so' = at_block (sum_block start) ds 16 0 start r.end (length bs) (left_of r) (drop k bs) (Ok (x, counted b)) end_is left_is so in
       let m = mapped_ok (sum_block start) (read_block ds 16 0 start (length bs) (drop k bs)) (x, counted b) so' in
-      let N = (at_noted ds 16 0 start r.end (length bs) (left_of r) (drop k bs) r.place k 0 0 1 S T end_is left_is place_is noted m.0 (bytes_after k bs bytes) m.1).pausing in
+      let N = (at_noted ds 16 0 start r.end (length bs) (left_of r) (drop k bs) None r.place k 0 0 1 S T end_is left_is place_is noted m.0 (bytes_after k bs bytes) m.1).pausing in
       let v : T.pausing ≡ loops_pause k 0 0 1 m.0 = N ∙ ap (λ z. z >>= (λ _. loops_pause k 0 0 1 m.0)) clear in
       (λ i. Ok (record { extent = (sym m.2 i).0; counts = kept (sym m.2 i).1; pausing = v i }))
       ∙ ap (mapped (summary k)) (sym m.1 ∙ main_is)

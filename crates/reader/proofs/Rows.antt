@@ -1,11 +1,12 @@
 -- The row of a statement, and the rows of its blocks.
-use Rattle.std.proofs.Common.{◌≡◌, ℕ, suc, ◌+◌, ◌-◌, ◌*◌, Bool, true, false, cond, List, [], ◌∷◌, ◌++◌, length, Some, None, Option, sym, refl, ap, ◌∙◌, ap₂, arith, length-append}
+use Rattle.std.proofs.Common.{◌≡◌, ℕ, zero, suc, ◌+◌, ◌-◌, ◌*◌, ◌%◌, ◌≤◌, Bool, true, false, cond, List, [], ◌∷◌, ◌++◌, length, Some, None, Ok, Option, sym, refl, ap, ◌∙◌, ap₂, subst, arith, length-append}
 use Rattle.evaluator.specs.Commands.{written}
 use Rattle.rules.specs.Encoding.{statement_bytes, block_bytes}
 use Rattle.rules.specs.Forms.{has_byte, has_block, has_second_block, par_count, build}
 use Rattle.rules.specs.Numbering.{Mark, Step, Text, number_statement, number_block}
-use Rattle.rules.specs.Reading.{block_thread, place_of_code}
+use Rattle.rules.specs.Reading.{Counts, after_statement, block_thread, head_size, place_of_code, read_statement, read_statements, read_block}
 use Rattle.rules.specs.Text.{Expression, Stmt, nothing, assign, pause, branch, loop, par, abort, Block, end, ◌then◌, count, pars, pars_of, arms}
+use Rattle.rules.specs.Variables.{Variable}
 use Rattle.rules.specs.declared.program.Form.{Form}
 use Rattle.rules.specs.declared.program.Form.TheVariants as Form
 use Rattle.table.specs.Filling.{filled, filled_in}
@@ -14,7 +15,9 @@ use Rattle.table.specs.declared.rows.Arm.{Arm}
 use Rattle.table.specs.declared.rows.Code.{Code}
 use Rattle.table.specs.declared.rows.Row.{Row}
 use Rattle.table.specs.declared.rows.Task.{Task}
+use Rattle.table.specs.declared.rows.Task.TheVariants as Task
 use Rattle.loading.proofs.Shapes.{some_bytes}
+use Rattle.heads.proofs.Binding.{bind_inv, same_ok}
 use Rattle.reader.specs.Tasks.{number_if, built_task}
 
 -- A statement has its number, its place and its thread.
@@ -52,26 +55,86 @@ first_is n p t u (s then B) =
       some zero h = absurd (omega arith)
       some (suc k) h = refl
 
+-- So has a block that was read, if there were bytes for it.
+pub first_read : (ds : List Variable) (n t e f : ℕ) (a : Counts) (l : List ℕ) (B : Block (Unit {0})) (m p s u : ℕ) → length l ≤ f → read_statements ds n (read_block ds n) t f a e l ≡ Ok B → first_of (number_block m p s u B) ≡ number_if (length l) m
+first_read ds n t e f a [] B m p s u h r = ap (λ B. first_of (number_block m p s u B)) (sym (same_ok r))
+first_read ds n t e zero a (c ∷ bs) B m p s u h r = absurd (omega arith)
+first_read ds n t e (suc f) a (c ∷ bs) B m p s u h r =
+    let y0 = bind_inv (read_statement ds n (read_block ds n) t a e c bs) _ B r in
+    let y1 = bind_inv (read_statements ds n (read_block ds n) t f (after_statement y0.0.0 a) e y0.0.1) _ B y0.2 in
+    ap (λ B. first_of (number_block m p s u B)) (sym (same_ok y1.2)) ∙ ap (λ (k : Mark). Some k.number) (number_is m p s u y0.0.0)
+
+-- Tasks of equal parts are equal.
+same_if : {c d : Code} {f g h k : Option ℕ} → c ≡ d → f ≡ g → h ≡ k → Task.If c f h ≡ Task.If d g k
+same_if p q r = λ i. Task.If (p i) (q i) (r i)
+
+same_loop : {c d : Code} {f g : Option ℕ} (o : ℕ) → c ≡ d → f ≡ g → Task.Loop o c f ≡ Task.Loop o d g
+same_loop o p q = λ i. Task.Loop o (p i) (q i)
+
+same_par : {a b v w : ℕ} {f g h k : Option ℕ} → a ≡ b → f ≡ g → v ≡ w → h ≡ k → Task.Par (record { thread = a; first = f }) (record { thread = v; first = h }) ≡ Task.Par (record { thread = b; first = g }) (record { thread = w; first = k })
+same_par p q r s = λ i. Task.Par (record { thread = p i; first = q i }) (record { thread = r i; first = s i })
+
+same_abort : {c d : Code} {f g : Option ℕ} (w j : Bool) → c ≡ d → f ≡ g → Task.Abort w j c f ≡ Task.Abort w j d g
+same_abort w j p q = λ i. Task.Abort w j (p i) (q i)
+
 module _ (o : ℕ) (e : Expression) (X Y : Block (Unit {0})) (p n t u : ℕ) where
   -- The expression of a statement of a form.
-  abbrev code_of : Form → Code
+  abbrev pub code_of : Form → Code
   code_of k = record { from = place_of_code k p; length = length (written e) }
 
-  abbrev arm : ℕ → ℕ → Block (Unit {0}) → Arm
+  abbrev pub arm : ℕ → ℕ → Block (Unit {0}) → Arm
   arm a m B = record { thread = a; first = number_if (length (block_bytes B)) m }
 
-  code_at : (k : Form) (j : ℕ) → p + j ≡ place_of_code k p → record { from = p + j; length = length (written e) } ≡ code_of k
+  code_at : (k : Form) (j : ℕ) → place_of_code k p ≡ p + j → code_of k ≡ record { from = p + j; length = length (written e) }
   code_at k j h = λ i. record { from = h i; length = length (written e) }
 
   -- What a statement of a form does, by its parts.
-  pub task_is : (k : Form) (a b : ℕ) → (has_block k ≡ true → has_second_block k ≡ true → a ≡ u) → a ≡ u → b ≡ u + par_count k + arms X →
-      built_task k o (code_of k) (arm a (n + 1) X) (arm b (n + 1 + count X) Y) ≡ task (number_statement n p t u (build k o e X Y))
-  task_is Form.Nothing a b _ f g = refl
-  task_is Form.Set a b _ f g = ap (λ c. Task.Set o c) (sym (code_at Form.Set 3 (omega arith)))
-  task_is Form.Pause a b _ f g = refl
-  task_is Form.If a b _ f g = λ i. Task.If (sym (code_at Form.If 2 (omega arith)) i) (sym (first_is _ _ t u X) i) (sym (first_is _ _ t _ Y) i)
-  task_is Form.Loop a b _ f g = λ i. Task.Loop o (sym (code_at Form.Loop 3 (omega arith)) i) (sym (first_is _ _ t u X) i)
-  task_is Form.Par a b _ f g =
-      let second : b ≡ u + 1 + arms (number_block (n + 1) _ u (u + 1) X) = let q = pars_all (n + 1) _ u (u + 1) X in omega arith in
-      λ i. Task.Par (record { thread = f i; first = sym (first_is _ _ u _ X) i }) (record { thread = second i; first = sym (first_is _ _ _ _ Y) i })
-  task_is Form.Abort a b _ f g = λ i. Task.Abort _ _ (sym (code_at Form.Abort 3 (omega arith)) i) (sym (first_is _ _ t u X) i)
+  pub task_is : (k : Form) (b : ℕ) → b ≡ u + par_count k + arms X →
+      built_task k o (code_of k) (arm u (n + 1) X) (arm b (n + 1 + count X) Y) ≡ task (number_statement n p t u (build k o e X Y))
+  task_is Form.Nothing b h = refl
+  task_is Form.Set b h = ap (λ c. Task.Set o c) (code_at Form.Set 3 (omega arith))
+  task_is Form.Pause b h = refl
+  task_is Form.If b h = same_if (code_at Form.If 2 (omega arith)) (sym (first_is _ _ _ _ X)) (sym (first_is _ _ _ _ Y))
+  task_is Form.Loop b h = same_loop o (code_at Form.Loop 3 (omega arith)) (sym (first_is _ _ _ _ X))
+  task_is Form.Par b h =
+      let P = p + head_size (par tt X Y) (length (block_bytes X) + length (block_bytes Y)) in
+      let second : b ≡ u + 1 + arms (number_block (n + 1) P u (u + 1) X) = let q = pars_all (n + 1) P u (u + 1) X in omega arith in
+      same_par refl (sym (first_is _ _ _ _ X)) second (sym (first_is _ _ _ _ Y))
+  task_is Form.Abort b h = same_abort _ _ (code_at Form.Abort 3 (omega arith)) (sym (first_is _ _ _ _ X))
+
+module _ (o : ℕ) (e : Expression) (X Y : Block (Unit {0})) (p n t u p₁ p₂ : ℕ) (R : List Row) where
+  -- The table after the rows of a statement's blocks are set, in turn.
+  abbrev in_turn : (t₁ u₁ t₂ u₂ : ℕ) → List Row
+  in_turn t₁ u₁ t₂ u₂ = filled (Some n) (number_block (n + 1 + count X) p₂ t₂ u₂ Y) (filled (Some n) (number_block (n + 1) p₁ t₁ u₁ X) R)
+
+  -- Without blocks, as it was.
+  none : X ≡ end → Y ≡ end → (t₁ u₁ t₂ u₂ : ℕ) → in_turn t₁ u₁ t₂ u₂ ≡ R
+  none f g t₁ u₁ t₂ u₂ = λ i. filled (Some n) (number_block (n + 1 + count (f i)) p₂ t₂ u₂ (g i)) (filled (Some n) (number_block (n + 1) p₁ t₁ u₁ (f i)) R)
+
+  -- With one block, by that block.
+  one : Y ≡ end → (q t₁ t' u₁ u' t₂ u₂ : ℕ) → p₁ ≡ q → t₁ ≡ t' → u₁ ≡ u' → in_turn t₁ u₁ t₂ u₂ ≡ filled (Some n) (number_block (n + 1) q t' u' X) R
+  one g q t₁ t' u₁ u' t₂ u₂ pe te ue = λ i. filled (Some n) (number_block (n + 1 + count X) p₂ t₂ u₂ (g i)) (filled (Some n) (number_block (n + 1) (pe i) (te i) (ue i) X) R)
+
+  -- With two, by the first before the second.
+  two : (q₁ q₂ t₁ t₁' u₁ u₁' t₂ t₂' u₂ u₂' : ℕ) → p₁ ≡ q₁ → p₂ ≡ q₂ → t₁ ≡ t₁' → u₁ ≡ u₁' → t₂ ≡ t₂' → u₂ ≡ u₂' →
+      in_turn t₁ u₁ t₂ u₂ ≡ filled (Some n) (number_block (n + 1 + count X) q₂ t₂' u₂' Y) (filled (Some n) (number_block (n + 1) q₁ t₁' u₁' X) R)
+  two q₁ q₂ t₁ t₁' u₁ u₁' t₂ t₂' u₂ u₂' a b c d f g =
+      λ i. filled (Some n) (number_block (n + 1 + count X) (b i) (f i) (g i) Y) (filled (Some n) (number_block (n + 1) (a i) (c i) (d i) X) R)
+
+  -- The rows of the blocks of a statement of a form, whose first block begins at p₁ and whose second at p₂.
+  pub filled_by_form : (k : Form) → (has_block k ≡ false → X ≡ end) → (has_second_block k ≡ false → Y ≡ end) →
+      p₁ ≡ p + (length (statement_bytes (build k o e X Y)) - (length (block_bytes X) + length (block_bytes Y))) →
+      p₂ ≡ p + (length (statement_bytes (build k o e X Y)) - length (block_bytes Y)) →
+      in_turn (block_thread k t (u + par_count k)) (u + par_count k) (block_thread k t (u + par_count k + arms X + par_count k)) (u + par_count k + arms X + par_count k)
+      ≡ filled_in (number_statement n p t u (build k o e X Y)) R
+  filled_by_form Form.Nothing f g a b = none (f refl) (g refl) _ _ _ _
+  filled_by_form Form.Set f g a b = none (f refl) (g refl) _ _ _ _
+  filled_by_form Form.Pause f g a b = none (f refl) (g refl) _ _ _ _
+  filled_by_form Form.If f g a b = two _ _ _ _ _ _ _ _ _ _ a b refl (omega arith) refl (omega arith)
+  filled_by_form Form.Loop f g a b =
+      let y : length (block_bytes Y) ≡ 0 = ap (λ B. length (block_bytes B)) (g refl) in
+      one (g refl) _ _ _ _ _ _ _ (let h = a in omega arith) refl (omega arith)
+  filled_by_form Form.Par f g a b = two _ _ _ _ _ _ _ _ _ _ a b (omega arith) refl (omega arith) (omega arith)
+  filled_by_form Form.Abort f g a b =
+      let y : length (block_bytes Y) ≡ 0 = ap (λ B. length (block_bytes B)) (g refl) in
+      one (g refl) _ _ _ _ _ _ _ (let h = a in omega arith) refl (omega arith)

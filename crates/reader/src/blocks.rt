@@ -1,7 +1,7 @@
 //! Reads blocks by their statements, and statements by their blocks.
 ghost use Rattle.std.specs.Prelude.{◌≡◌, suc, ◌≤◌, OnOk};
 ghost use Rattle.evaluator.specs.Outcomes.{mapped};
-ghost use Rattle.rules.specs.Reading.{read_block as Block-read, read_statement as statement_read};
+ghost use Rattle.rules.specs.Reading.{read_block as block_read, read_statement as statement_read};
 ghost use Rattle.declarations.specs.Declaring.{variables_of};
 ghost use Rattle.heads.specs.Counting.{counted, Few};
 ghost use Rattle.heads.specs.Readers.{left_of, statement_place, SameBlock};
@@ -23,7 +23,7 @@ use rules::faults::LoadFault;
 use table::rows::{Arm, Row};
 
 /// A block of a thread: all that the reader has left.
-#[cycle(read_block_read_statement_read_statements)]
+#[cycle(reading)]
 pub(crate) fn read_block(
     reader: &mut Reader<'_>,
     thread: usize,
@@ -33,8 +33,8 @@ pub(crate) fn read_block(
     declarations: &[Declaration],
 ) -> Result<Extent, LoadFault>
     requires { (Few survey.old.counts) × (thread ≤ 31) }
-    ensures answer { mapped (with_counts (counted survey.new.counts)) result ≡ mapped (sum_block (counted survey.old.counts)) (Block-read (variables_of declarations.now) scope.old.nesting thread (counted survey.old.counts) reader.old.end (left_of reader.old)) }
-    ensures noted { OnOk result (BlockNoted (Block-read (variables_of declarations.now) scope.old.nesting thread (counted survey.old.counts) reader.old.end (left_of reader.old)) (left_of reader.old) inside reader.old.place survey.old.counts.statements thread survey.old.counts.threads survey.old survey.new) }
+    ensures answer { mapped (with_counts (counted survey.new.counts)) result ≡ mapped (sum_block (counted survey.old.counts)) (block_read (variables_of declarations.now) scope.old.nesting thread (counted survey.old.counts) reader.old.end (left_of reader.old)) }
+    ensures noted { OnOk result (BlockNoted (block_read (variables_of declarations.now) scope.old.nesting thread (counted survey.old.counts) reader.old.end (left_of reader.old)) (left_of reader.old) inside reader.old.place survey.old.counts.statements thread survey.old.counts.threads survey.old survey.new) }
     ensures few { OnOk result (Few survey.new.counts) }
     ensures through { OnOk result (ReadThrough reader.old reader.new) }
     ensures thread { scope.new.thread ≡ scope.old.thread }
@@ -61,7 +61,7 @@ pub(crate) fn read_block(
 }
 
 // Statements of the scope's thread, to the end of their block.
-#[cycle(read_block_read_statement_read_statements)]
+#[cycle(reading)]
 fn read_statements(
     reader: &mut Reader<'_>,
     inside: Option<u16>,
@@ -70,8 +70,8 @@ fn read_statements(
     declarations: &[Declaration],
 ) -> Result<Extent, LoadFault>
     requires { (Few survey.old.counts) × (scope.old.thread ≤ 31) }
-    ensures answer { mapped (with_counts (counted survey.new.counts)) result ≡ mapped (sum_block (counted survey.old.counts)) (Block-read (variables_of declarations.now) (suc scope.old.nesting) scope.old.thread (counted survey.old.counts) reader.old.end (left_of reader.old)) }
-    ensures noted { OnOk result (BlockNoted (Block-read (variables_of declarations.now) (suc scope.old.nesting) scope.old.thread (counted survey.old.counts) reader.old.end (left_of reader.old)) (left_of reader.old) inside reader.old.place survey.old.counts.statements scope.old.thread survey.old.counts.threads survey.old survey.new) }
+    ensures answer { mapped (with_counts (counted survey.new.counts)) result ≡ mapped (sum_block (counted survey.old.counts)) (block_read (variables_of declarations.now) (suc scope.old.nesting) scope.old.thread (counted survey.old.counts) reader.old.end (left_of reader.old)) }
+    ensures noted { OnOk result (BlockNoted (block_read (variables_of declarations.now) (suc scope.old.nesting) scope.old.thread (counted survey.old.counts) reader.old.end (left_of reader.old)) (left_of reader.old) inside reader.old.place survey.old.counts.statements scope.old.thread survey.old.counts.threads survey.old survey.new) }
     ensures few { OnOk result (Few survey.new.counts) }
     ensures through { OnOk result (ReadThrough reader.old reader.new) }
     ensures thread { scope.new.thread ≡ scope.old.thread }
@@ -89,7 +89,7 @@ fn read_statements(
 }
 
 // The statement whose command was just taken.
-#[cycle(read_block_read_statement_read_statements)]
+#[cycle(reading)]
 fn read_statement(
     command: u8,
     reader: &mut Reader<'_>,
@@ -99,9 +99,9 @@ fn read_statement(
     declarations: &[Declaration],
 ) -> Result<Extent, LoadFault>
     requires { (Few survey.old.counts) × (scope.old.thread ≤ 31) }
-    ensures answer { mapped (with_counts_and_left (counted survey.new.counts) (left_of reader.new)) result ≡ mapped (sum_statement (counted survey.old.counts)) (statement_read (variables_of declarations.now) scope.old.nesting (Block-read (variables_of declarations.now) scope.old.nesting) scope.old.thread (counted survey.old.counts) reader.old.end command (left_of reader.old)) }
+    ensures answer { mapped (with_counts_and_left (counted survey.new.counts) (left_of reader.new)) result ≡ mapped (sum_statement (counted survey.old.counts)) (statement_read (variables_of declarations.now) scope.old.nesting (block_read (variables_of declarations.now) scope.old.nesting) scope.old.thread (counted survey.old.counts) reader.old.end command (left_of reader.old)) }
     ensures few { OnOk result (Few survey.new.counts) }
-    ensures noted { OnOk result (StatementNoted (statement_read (variables_of declarations.now) scope.old.nesting (Block-read (variables_of declarations.now) scope.old.nesting) scope.old.thread (counted survey.old.counts) reader.old.end command (left_of reader.old)) (left_of reader.old) inside reader.old.end (statement_place reader.old) survey.old.counts.statements scope.old.thread survey.old.counts.threads survey.old survey.new) }
+    ensures noted { OnOk result (StatementNoted (statement_read (variables_of declarations.now) scope.old.nesting (block_read (variables_of declarations.now) scope.old.nesting) scope.old.thread (counted survey.old.counts) reader.old.end command (left_of reader.old)) (left_of reader.old) inside reader.old.end (statement_place reader.old) survey.old.counts.statements scope.old.thread survey.old.counts.threads survey.old survey.new) }
     ensures onward { OnOk result (SameBlock reader.old reader.new) }
     ensures thread { scope.new.thread ≡ scope.old.thread }
     ensures nesting { scope.new.nesting ≡ scope.old.nesting }

@@ -1,6 +1,6 @@
 //! How long a part of the text takes at most in a tick, and whether it must pause. Lengths stop at the largest u32.
 ghost use Rattle.std.specs.Prelude.{◌≡◌};
-ghost use Rattle.reader.specs.Extents.{joined as joined_is, either as Either-is, looped as Looped-is, paired as paired_is, aborted as aborted-is, built as built-is};
+ghost use Rattle.reader.specs.Extents.{joined as joined_is, either as either_is, looped as looped_is, paired as paired_is, aborted as aborted_is, built as built_is};
 
 use rules::program::Form;
 
@@ -23,7 +23,7 @@ pub fn joined(x: Extent, y: Extent) -> Extent
 
 /// An if of two blocks: one step, and the longer of them.
 pub fn either(x: Extent, y: Extent) -> Extent
-    ensures { result ≡ Either-is x y }
+    ensures { result ≡ either_is x y }
 {
     Extent {
         length: 1u32.saturating_add(x.length.max(y.length)),
@@ -33,7 +33,7 @@ pub fn either(x: Extent, y: Extent) -> Extent
 
 /// A loop of a bound: a step for each test, and its passes; a pausing loop has one test and two passes.
 pub fn looped(bound: u8, x: Extent) -> Extent
-    ensures { result ≡ Looped-is bound x }
+    ensures { result ≡ looped_is bound x }
 {
     let length = if bound == 0 {
         1u32.saturating_add(2u32.saturating_mul(x.length))
@@ -59,7 +59,7 @@ pub fn paired(x: Extent, y: Extent) -> Extent
 
 /// An abort of a block: one step, and the block.
 pub fn aborted(x: Extent) -> Extent
-    ensures { result ≡ aborted-is x }
+    ensures { result ≡ aborted_is x }
 {
     Extent {
         length: 1u32.saturating_add(x.length),
@@ -69,7 +69,7 @@ pub fn aborted(x: Extent) -> Extent
 
 /// The statement of a form, with its byte and the extents of its blocks as far as it has them.
 pub fn built(form: Form, byte: u8, first: Extent, second: Extent) -> Extent
-    ensures { result ≡ built-is form byte first second }
+    ensures { result ≡ built_is form byte first second }
 {
     match form {
         Form::Nothing | Form::Set => Extent {

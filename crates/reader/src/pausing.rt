@@ -1,8 +1,8 @@
 //! Finds the first pausing loop that may not pause.
 ghost use Rattle.std.specs.Prelude.{◌≡◌};
-ghost use Rattle.rules.specs.declared.faults.LoadFault.TheVariants.{Statement as statement-fault};
-ghost use Rattle.rules.specs.declared.faults.StatementFault.TheVariants.{MayNotPause as may-not-pause};
-ghost use Rattle.reader.specs.Noting.{judged as judged-is};
+ghost use Rattle.rules.specs.declared.faults.LoadFault.TheVariants.{Statement as statement_fault};
+ghost use Rattle.rules.specs.declared.faults.StatementFault.TheVariants.{MayNotPause as may_not_pause_so};
+ghost use Rattle.reader.specs.Noting.{judged as judged_is};
 
 use crate::extents::Extent;
 use rules::faults::{LoadFault, Site, StatementFault};
@@ -10,7 +10,7 @@ use rules::program::Form;
 
 /// The fault of a pausing loop that may not pause, at a place, with the statement's number and thread.
 pub fn may_not_pause(place: usize, statement: usize, thread: usize) -> LoadFault
-    ensures { result ≡ statement-fault (may-not-pause place) (record { statement = statement; thread = thread }) }
+    ensures { result ≡ statement_fault (may_not_pause_so place) (record { statement = statement; thread = thread }) }
 {
     LoadFault::Statement(
         StatementFault::MayNotPause(place),
@@ -27,7 +27,7 @@ pub fn judged(
     first: Extent,
     own: LoadFault,
 ) -> Result<(), LoadFault>
-    ensures { result ≡ judged-is before after form byte first.pauses own }
+    ensures { result ≡ judged_is before after form byte first.pauses own }
 {
     match form {
         Form::Loop if byte == 0 && !first.pauses => match before {

@@ -14,14 +14,14 @@ use Rattle.reader.proofs.Notes.{at_noted, statement_judged, own_fault}
 use Rattle.reader.proofs.Rounds.{noted_first, noted_more_at, noted_last, noted_entered, noted_shut}
 use Rattle.reader.proofs.Turns.{begun, one_more_at, stopped_at, ended, entered, joined_fits}
 use Rattle.reader.proofs.Ways.{shut, no_head, first_stopped, second_stopped, both_read, at_block, empty_first, empty_second}
-use Rattle.reader.proofs.blocks.+read_block_read_statement_read_statements.Goals as goal
+use Rattle.reader.proofs.blocks.+reading.Goals as goal
 
 pub read_block-returns : goal.read_block-returns
 read_block-returns t c =
     let f = c.in_ok-extent.ensures in
     record {
       answer = entered (variables_of c.args.declarations.now) c.args.scope.now.nesting c.args.thread c.args.reader.now.end (counted c.args.survey.now.counts) (left_of c.args.reader.now) _ (search rules) f.answer;
-      noted = noted_entered (variables_of c.args.declarations.now) c.args.scope.now.nesting c.args.thread c.args.reader.now.end (counted c.args.survey.now.counts) (left_of c.args.reader.now) _ _ _ _ _ _ (search rules) f.noted;
+      noted = noted_entered (variables_of c.args.declarations.now) c.args.scope.now.nesting c.args.thread c.args.reader.now.end (counted c.args.survey.now.counts) (left_of c.args.reader.now) c.args.inside _ _ _ _ _ _ (search rules) f.noted;
       few = f.few;
       through = f.through;
       thread = search rules;
@@ -32,8 +32,8 @@ pub read_block-returns-then-nesting-eq0 : goal.read_block-returns-then-nesting-e
 read_block-returns-then-nesting-eq0 t c =
     record {
       answer = shut (variables_of c.args.declarations.now) c.args.scope.now.nesting c.args.thread (counted c.args.survey.now.counts) c.args.reader.now.end (left_of c.args.reader.now) (search rules);
-      noted = noted_shut (variables_of c.args.declarations.now) c.args.scope.now.nesting c.args.thread c.args.reader.now.end (counted c.args.survey.now.counts) (left_of c.args.reader.now) _ _ _ _ _ (search rules);
-      few = c.requires;
+      noted = noted_shut (variables_of c.args.declarations.now) c.args.scope.now.nesting c.args.thread c.args.reader.now.end (counted c.args.survey.now.counts) (left_of c.args.reader.now) c.args.inside _ _ _ _ _ (search rules);
+      few = c.requires.0;
       through = record { program = c.skip.ensures.program; end = c.skip.ensures.end; place = c.skip.ensures.place };
       thread = refl;
       nesting = refl;
@@ -45,7 +45,7 @@ read_block-returns-in_err-extent t c =
     search (rules, entered, told, c.in_err-extent.ensures)
 
 pub read_statements-loop-command-init : goal.read_statements-loop-command-init
-read_statements-loop-command-init t c = (begun (variables_of c.args.declarations.now) c.args.scope.now.nesting c.args.scope.now.thread c.args.reader.now.end (left_of c.args.reader.now) (counted c.args.survey.now.counts), c.requires, search rules, refl, refl, record { program = refl; end = refl; onward = search rules }, noted_first (variables_of c.args.declarations.now) c.args.scope.now.nesting c.args.scope.now.thread c.args.reader.now.end (left_of c.args.reader.now) (counted c.args.survey.now.counts) c.args.survey.now (left_within c.args.reader.now))
+read_statements-loop-command-init t c = (begun (variables_of c.args.declarations.now) c.args.scope.now.nesting c.args.scope.now.thread c.args.reader.now.end (left_of c.args.reader.now) (counted c.args.survey.now.counts), c.requires.0, search rules, refl, refl, record { program = refl; end = refl; onward = search rules }, noted_first (variables_of c.args.declarations.now) c.args.scope.now.nesting c.args.scope.now.thread c.args.reader.now.end c.args.inside (left_of c.args.reader.now) (counted c.args.survey.now.counts) c.args.survey.now (left_within c.args.reader.now))
 
 pub read_statements-loop-command-preserved : goal.read_statements-loop-command-preserved
 read_statements-loop-command-preserved t c =
@@ -57,7 +57,7 @@ read_statements-loop-command-preserved t c =
       f.thread ∙ inv.3,
       f.nesting ∙ inv.4,
       in_turn _ _ _ block f.onward,
-      noted_more_at (variables_of c.args.declarations.now) c.args.scope.now.nesting c.args.scope.now.thread c.args.reader.now.end c.loop-command.scope.nesting c.loop-command.scope.thread c.command.new.self.end inv.4 inv.3 block.end _ _ _ (left_of c.loop-command.reader) c.in-Some.command (left_of c.command.new.self) _ c.in_ok-one.one _ _ _ _ cut.answer _ (left_within c.loop-command.reader) inv.5.end f.answer f.noted (left_shorter _ _ f.onward) inv.6,
+      noted_more_at (variables_of c.args.declarations.now) c.args.scope.now.nesting c.args.scope.now.thread c.args.reader.now.end c.loop-command.scope.nesting c.loop-command.scope.thread c.command.new.self.end inv.4 inv.3 block.end c.args.inside _ _ _ (left_of c.loop-command.reader) c.in-Some.command (left_of c.command.new.self) _ c.in_ok-one.one _ _ _ _ cut.answer _ (left_within c.loop-command.reader) inv.5.end f.answer f.noted (left_shorter _ _ f.onward) inv.6,
     )
 
 pub read_statements-loop-command-smaller : goal.read_statements-loop-command-smaller
@@ -70,7 +70,7 @@ read_statements-returns t c =
     let inv = c.loop-command.invariant in let cut = c.in_default.ensures in
     record {
       answer = ended (variables_of c.args.declarations.now) c.args.scope.now.nesting c.args.scope.now.thread c.args.reader.now.end _ _ (left_of c.loop-command.reader) _ _ inv.0 inv.2 cut.answer.0;
-      noted = noted_last (variables_of c.args.declarations.now) c.args.scope.now.nesting c.args.scope.now.thread c.args.reader.now.end (left_of c.args.reader.now) _ _ (left_of c.loop-command.reader) _ _ _ (place_by_left c.args.reader.now) cut.answer.0 inv.6;
+      noted = noted_last (variables_of c.args.declarations.now) c.args.scope.now.nesting c.args.scope.now.thread c.args.reader.now.end c.args.inside (left_of c.args.reader.now) _ _ (left_of c.loop-command.reader) _ _ _ (place_by_left c.args.reader.now) cut.answer.0 inv.6;
       few = inv.1;
       through = through_end _ _ _ inv.5 cut.block cut.answer.1;
       thread = inv.3;
@@ -118,7 +118,7 @@ read_statement-returns-in_err-x t c =
     let x = c.in_err-x.ensures in
     record {
       answer = err_mapped (with_counts_and_left (counted c.read_block.new.survey.counts) (left_of c.read_block.new.reader)) c.from_residual-in_err-x.result _ c.from_residual-in_err-x.ensures.1
-          ∙ first_stopped (variables_of c.args.declarations.now) c.args.scope.now.nesting c.args.scope.now.thread (counted c.args.survey.now.counts) c.args.reader.now.end c.args.command (left_of c.args.reader.now) q c.par_count-forks.result c.block_thread-owner.result f.answer c.par_count-forks.ensures.0 c.block_thread-owner.ensures _ (at_block (sum_block _) _ _ _ _ _ _ _ _ _ x-end c.enter.ensures.left x.answer);
+          ∙ first_stopped (variables_of c.args.declarations.now) c.args.scope.now.nesting c.args.scope.now.thread (counted c.args.survey.now.counts) c.args.reader.now.end c.args.command (left_of c.args.reader.now) q c.par_count-forks.result c.block_thread-owner.result f.answer c.par_count-forks.ensures.0 c.block_thread-owner.ensures.0 _ (at_block (sum_block _) _ _ _ _ _ _ _ _ _ x-end c.enter.ensures.left x.answer);
       noted = IfOk-from_err _ _ c.from_residual-in_err-x.ensures.0;
       few = IfOk-from_err _ _ c.from_residual-in_err-x.ensures.0;
       onward = IfOk-from_err _ _ c.from_residual-in_err-x.ensures.0;
@@ -149,8 +149,8 @@ read_statement-returns-in_err-y t c =
     ∙ second_end l h.first_length h.second_length f.fine.short c.read_head.new.reader.place c.args.reader.now.end long within in
     record {
       answer = err_mapped (with_counts_and_left (counted c.read_block-2.new.survey.counts) (left_of c.read_block-2.new.reader)) c.from_residual-in_err-y.result _ c.from_residual-in_err-y.ensures.1
-          ∙ second_stopped (variables_of c.args.declarations.now) c.args.scope.now.nesting c.args.scope.now.thread (counted c.args.survey.now.counts) c.args.reader.now.end c.args.command (left_of c.args.reader.now) q c.par_count-forks.result c.block_thread-owner.result f.answer c.par_count-forks.ensures.0 c.block_thread-owner.ensures
-          c.in_ok-x.x (counted c.read_block.new.survey.counts) (at_block (sum_block _) _ _ _ _ _ _ _ _ _ x-end c.enter.ensures.left x.answer) c.read_block.new.scope.nesting c.block_thread-owner-2.result x.nesting c.block_thread-owner-2.ensures _ (at_block (sum_block _) _ _ _ _ _ _ _ _ _ y-end y-left y.answer);
+          ∙ second_stopped (variables_of c.args.declarations.now) c.args.scope.now.nesting c.args.scope.now.thread (counted c.args.survey.now.counts) c.args.reader.now.end c.args.command (left_of c.args.reader.now) q c.par_count-forks.result c.block_thread-owner.result f.answer c.par_count-forks.ensures.0 c.block_thread-owner.ensures.0
+          c.in_ok-x.x (counted c.read_block.new.survey.counts) (at_block (sum_block _) _ _ _ _ _ _ _ _ _ x-end c.enter.ensures.left x.answer) c.read_block.new.scope.nesting c.block_thread-owner-2.result x.nesting c.block_thread-owner-2.ensures.0 _ (at_block (sum_block _) _ _ _ _ _ _ _ _ _ y-end y-left y.answer);
       noted = IfOk-from_err _ _ c.from_residual-in_err-y.ensures.0;
       few = IfOk-from_err _ _ c.from_residual-in_err-y.ensures.0;
       onward = IfOk-from_err _ _ c.from_residual-in_err-y.ensures.0;
@@ -186,8 +186,8 @@ read_statement-returns t c =
     record {
       answer =
           (λ i. Ok (c.built.ensures i, counted c.read_block-2.new.survey.counts, rest i))
-          ∙ both_read (variables_of c.args.declarations.now) c.args.scope.now.nesting c.args.scope.now.thread (counted c.args.survey.now.counts) c.args.reader.now.end c.args.command (left_of c.args.reader.now) q c.par_count-forks.result c.block_thread-owner.result f.answer c.par_count-forks.ensures.0 c.block_thread-owner.ensures
-          c.in_ok-x.x (counted c.read_block.new.survey.counts) (at_block (sum_block _) _ _ _ _ _ _ _ _ _ x-end c.enter.ensures.left x.answer) c.read_block.new.scope.nesting c.block_thread-owner-2.result x.nesting c.block_thread-owner-2.ensures c.in_ok-y.y (counted c.read_block-2.new.survey.counts) (λ z. empty_first l h.first_length (f.fine.no_first z)) (λ z. empty_second l h.first_length h.second_length (f.fine.no_second z)) (at_block (sum_block _) _ _ _ _ _ _ _ _ _ y-end y-left y.answer);
+          ∙ both_read (variables_of c.args.declarations.now) c.args.scope.now.nesting c.args.scope.now.thread (counted c.args.survey.now.counts) c.args.reader.now.end c.args.command (left_of c.args.reader.now) q c.par_count-forks.result c.block_thread-owner.result f.answer c.par_count-forks.ensures.0 c.block_thread-owner.ensures.0
+          c.in_ok-x.x (counted c.read_block.new.survey.counts) (at_block (sum_block _) _ _ _ _ _ _ _ _ _ x-end c.enter.ensures.left x.answer) c.read_block.new.scope.nesting c.block_thread-owner-2.result x.nesting c.block_thread-owner-2.ensures.0 c.in_ok-y.y (counted c.read_block-2.new.survey.counts) (λ z. empty_first l h.first_length (f.fine.no_first z)) (λ z. empty_second l h.first_length h.second_length (f.fine.no_second z)) (at_block (sum_block _) _ _ _ _ _ _ _ _ _ y-end y-left y.answer);
       noted = λ r lt bytes came. record {
         pausing =
             c.judged-survey.ensures
@@ -197,8 +197,8 @@ read_statement-returns t c =
             q f.answer c.par_count-forks.result c.block_thread-owner.result c.block_thread-owner-2.result c.read_block.new.scope.nesting c.read_head.new.reader.place c.leave.new.self.place c.in_ok-x.x (counted c.read_block.new.survey.counts) c.args.survey.now _ _ _ _
             (record {
               w_is = c.par_count-forks.ensures.0;
-              t₁_is = c.block_thread-owner.ensures;
-              t₂_is = c.block_thread-owner-2.ensures;
+              t₁_is = c.block_thread-owner.ensures.0;
+              t₂_is = c.block_thread-owner-2.ensures.0;
               m_is = x.nesting;
               p₁_is = parts_end l h.first_length h.second_length c.read_head.new.reader.place c.args.reader.now.end long within;
               p₂_is = one.place ∙ ap (λ k. c.read_head.new.reader.place + k) (sym (taken_long l h.first_length first-few));

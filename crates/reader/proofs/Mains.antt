@@ -35,7 +35,8 @@ bytes_after (suc n) [] h = tt
 bytes_after (suc n) (b ∷ l) h = bytes_after n l h.1
 
 module _ (ds : List Variable) (k : ℕ) (bs : List ℕ) (few : length bs ≤ 4096) (within : k ≤ length bs)
-    (r : Reader) (r-program : r.program.now ≡ bs) (r-end : r.end ≡ min (length bs) 4096) (r-place : r.place ≡ min k r.end) where
+    (r : Reader) (r-program : r.program.now ≡ bs) (r-end : r.end ≡ min (length bs) 4096) (r-place : r.place ≡ min k r.end)
+    (S : Survey) (none-counted : S.counts ≡ record { statements = 0; pars = 0; threads = 1 }) where
   end_is : r.end ≡ length bs
   end_is = omega arith
 
@@ -45,24 +46,28 @@ module _ (ds : List Variable) (k : ℕ) (bs : List ℕ) (few : length bs ≤ 409
   left_is : left_of r ≡ drop k bs
   left_is = (λ i. bytes_between (r-program i) (place_is i) (end_is i)) ∙ take_rest bs k
 
-  -- The block, from the reader.
-  abbrev from_reader : Result (Block (Unit {0})) LoadFault
-  from_reader = read_block ds 16 0 start r.end (left_of r)
+  -- The block, from the reader, after counts a.
+  abbrev from_reader : Counts → Result (Block (Unit {0})) LoadFault
+  from_reader a = read_block ds 16 0 a r.end (left_of r)
 
   main_is : read_block ds 16 0 start (length bs) (drop k bs) ≡ main_in ds k bs
   main_is = sym (bind_ok _ _ tt (ensure_ok _ (and_from _ _ (le-leb (length bs) 4096 few) (le-leb k (length bs) within))) refl)
 
-  pub main_read : All (λ b. b < 256) bs → (x : Extent) (b : Kept) (S T : Survey) → S.pausing ≡ Ok tt → Ok (x, counted b) ≡ mapped (sum_block start) from_reader → BlockNoted from_reader (left_of r) None r.place 0 0 1 S T →
+  -- What the code answers, after no counts.
+  from_start : (z : Result (Extent × Counts) LoadFault) → z ≡ mapped (sum_block (counted S.counts)) (from_reader (counted S.counts)) → z ≡ mapped (sum_block start) (read_block ds 16 0 start (length bs) (drop k bs))
+  from_start z so =
+      at_block (sum_block start) ds 16 0 start r.end (length bs) (left_of r) (drop k bs) z end_is left_is
+      (so ∙ (λ i. mapped (sum_block (counted (none-counted i))) (from_reader (counted (none-counted i)))))
+
+  pub main_read : All (λ b. b < 256) bs → (x : Extent) (b : Kept) (T : Survey) → S.pausing ≡ Ok tt → Ok (x, counted b) ≡ mapped (sum_block (counted S.counts)) (from_reader (counted S.counts)) → BlockNoted (from_reader (counted S.counts)) (left_of r) None r.place S.counts.statements 0 S.counts.threads S T →
       Ok (record { extent = x; counts = b; pausing = T.pausing }) ≡ mapped (summary k) (main_in ds k bs)
-  main_read bytes x b S T clear so noted =
-      let so' = at_block (sum_block start) ds 16 0 start r.end (length bs) (left_of r) (drop k bs) (Ok (x, counted b)) end_is left_is so in
-      let m = mapped_ok (sum_block start) (read_block ds 16 0 start (length bs) (drop k bs)) (x, counted b) so' in
-      let N = (at_noted ds 16 0 start r.end (length bs) (left_of r) (drop k bs) None r.place k 0 0 1 S T end_is left_is place_is noted m.0 (bytes_after k bs bytes) m.1).pausing in
+  main_read bytes x b T clear so noted =
+      let m = mapped_ok (sum_block start) (read_block ds 16 0 start (length bs) (drop k bs)) (x, counted b) (from_start (Ok (x, counted b)) so) in
+      let noted₀ = subst (λ (a : Kept). BlockNoted (from_reader (counted a)) (left_of r) None r.place a.statements 0 a.threads S T) none-counted noted in
+      let N = (at_noted ds 16 0 start r.end (length bs) (left_of r) (drop k bs) None r.place k 0 0 1 S T end_is left_is place_is noted₀ m.0 (bytes_after k bs bytes) m.1).pausing in
       let v : T.pausing ≡ loops_pause k 0 0 1 m.0 = N ∙ ap (λ z. z >>= (λ _. loops_pause k 0 0 1 m.0)) clear in
       (λ i. Ok (record { extent = (sym m.2 i).0; counts = kept (sym m.2 i).1; pausing = v i }))
       ∙ ap (mapped (summary k)) (sym m.1 ∙ main_is)
 
-  pub main_stopped : (g : LoadFault) → Err g ≡ mapped (sum_block start) from_reader → Err g ≡ mapped (summary k) (main_in ds k bs)
-  main_stopped g so =
-      let so' = at_block (sum_block start) ds 16 0 start r.end (length bs) (left_of r) (drop k bs) (Err g) end_is left_is so in
-      ap (mapped (summary k)) (sym (mapped_err (sum_block start) (read_block ds 16 0 start (length bs) (drop k bs)) g so') ∙ main_is)
+  pub main_stopped : (g : LoadFault) → Err g ≡ mapped (sum_block (counted S.counts)) (from_reader (counted S.counts)) → Err g ≡ mapped (summary k) (main_in ds k bs)
+  main_stopped g so = ap (mapped (summary k)) (sym (mapped_err (sum_block start) (read_block ds 16 0 start (length bs) (drop k bs)) g (from_start (Err g) so)) ∙ main_is)

@@ -1,16 +1,20 @@
 -- The block by its statements, and the statement by its blocks.
-use Rattle.std.proofs.Common.{◌≡◌, ℕ, ◌+◌, ◌-◌, ◌≤◌, List, length, take, drop, Ok, sym, refl, ap, ◌∙◌, arith, rules}
+use Rattle.std.proofs.Common.{◌≡◌, ℕ, ◌+◌, ◌-◌, ◌≤◌, List, length, take, drop, set, Ok, sym, refl, ap, ◌∙◌, subst, arith, rules}
 use Rattle.std.proofs.lemmas.Result.{IfOk-from_err}
 use Rattle.declarations.specs.Declaring.{variables_of}
-use Rattle.heads.specs.Counting.{counted}
+use Rattle.evaluator.specs.Outcomes.{mapped}
+use Rattle.rules.specs.Reading.{read_statement, read_block}
+use Rattle.heads.specs.Counting.{counted, Few}
+use Rattle.heads.specs.declared.counts.Counts.{Counts}
 use Rattle.heads.specs.Readers.{left_of}
 use Rattle.heads.specs.Seen.{seen}
 use Rattle.heads.proofs.Binding.{err_mapped}
 use Rattle.heads.proofs.Taken.{in_turn}
-use Rattle.reader.specs.Told.{with_counts, with_counts_and_left, sum_block}
+use Rattle.reader.specs.Told.{with_counts, with_counts_and_left, sum_block, sum_statement}
+use Rattle.reader.specs.Tasks.{number_if, built_task}
 use Rattle.reader.specs.Noting.{judged}
 use Rattle.reader.proofs.Lefts.{left_long, left_within, place_by_left, left_shorter, at_end, through_end, Passed, passed, onward_past, first_end, second_end, second_few, parts_end, taken_long, past_command}
-use Rattle.reader.proofs.Notes.{at_noted, statement_judged, own_fault}
+use Rattle.reader.proofs.Notes.{at_noted, statement_known, row_known, own_fault}
 use Rattle.reader.proofs.Rounds.{noted_first, noted_more_at, noted_last, noted_entered, noted_shut}
 use Rattle.reader.proofs.Turns.{begun, one_more_at, stopped_at, ended, entered, joined_fits}
 use Rattle.reader.proofs.Ways.{shut, no_head, first_stopped, second_stopped, both_read, at_block, empty_first, empty_second}
@@ -183,34 +187,55 @@ read_statement-returns t c =
     let two : Passed h.second_length c.leave.new.self c.enter-2.new.self c.leave-2.new.self =
     passed c.leave.new.self c.enter-2.new.self c.read_block-2.new.reader c.leave-2.new.self h.second_length c.end-end.result e-is more c.enter-2.ensures.program c.enter-2.ensures.place c.enter-2.ensures.end y.through c.leave-2.ensures.program c.leave-2.ensures.place c.leave-2.ensures.end in
     let rest : left_of c.leave-2.new.self ≡ q.after = two.left ∙ ap (drop h.second_length) one.left in
+    let S = c.args.survey.now in
+    let U = c.read_block-2.new.survey in
+    let b = c.read_block.new.survey.counts in
+    let second-few = second_few l h.first_length h.second_length f.fine.short in
+    let told : Ok (c.built.result, counted U.counts, left_of c.leave-2.new.self) ≡ mapped (sum_statement (counted S.counts)) (read_statement (variables_of c.args.declarations.now) c.args.scope.now.nesting (read_block (variables_of c.args.declarations.now) c.args.scope.now.nesting) c.args.scope.now.thread (counted S.counts) c.args.reader.now.end c.args.command (left_of c.args.reader.now)) =
+    (λ i. Ok (c.built.ensures i, counted U.counts, rest i))
+    ∙ both_read (variables_of c.args.declarations.now) c.args.scope.now.nesting c.args.scope.now.thread (counted S.counts) c.args.reader.now.end c.args.command (left_of c.args.reader.now) q c.par_count-forks.result c.block_thread-owner.result f.answer c.par_count-forks.ensures.0 c.block_thread-owner.ensures.0
+    c.in_ok-x.x (counted b) (at_block (sum_block _) _ _ _ _ _ _ _ _ _ x-end c.enter.ensures.left x.answer) c.read_block.new.scope.nesting c.block_thread-owner-2.result x.nesting c.block_thread-owner-2.ensures.0 c.in_ok-y.y (counted U.counts) (λ z. empty_first l h.first_length (f.fine.no_first z)) (λ z. empty_second l h.first_length h.second_length (f.fine.no_second z)) (at_block (sum_block _) _ _ _ _ _ _ _ _ _ y-end y-left y.answer) in
+    let does : c.task_of.result ≡ built_task q.form q.byte (record { from = q.code_from; length = length q.code }) (record { thread = S.counts.threads; first = number_if (length q.first) (S.counts.statements + 1) }) (record { thread = b.threads; first = number_if (length q.second) b.statements }) =
+    c.task_of.ensures
+    ∙ (λ i. built_task h.form h.byte (record { from = h.code_place; length = length h.code.now }) (record { thread = S.counts.threads; first = c.number_if.ensures i }) (c.arm_of-second.ensures i))
+    ∙ (λ i. built_task h.form h.byte (record { from = h.code_place; length = length h.code.now }) (record { thread = S.counts.threads; first = number_if (sym (taken_long l h.first_length first-few) i) (S.counts.statements + 1) }) (record { thread = b.threads; first = number_if (sym (taken_long (drop h.first_length l) h.second_length second-few) i) b.statements })) in
+    let next : c.number_if-2.result ≡ number_if (length (left_of c.leave-2.new.self)) U.counts.statements = c.number_if-2.ensures ∙ ap (λ (z : List ℕ). number_if (length z) U.counts.statements) c.left.ensures in
     record {
-      answer =
-          (λ i. Ok (c.built.ensures i, counted c.read_block-2.new.survey.counts, rest i))
-          ∙ both_read (variables_of c.args.declarations.now) c.args.scope.now.nesting c.args.scope.now.thread (counted c.args.survey.now.counts) c.args.reader.now.end c.args.command (left_of c.args.reader.now) q c.par_count-forks.result c.block_thread-owner.result f.answer c.par_count-forks.ensures.0 c.block_thread-owner.ensures.0
-          c.in_ok-x.x (counted c.read_block.new.survey.counts) (at_block (sum_block _) _ _ _ _ _ _ _ _ _ x-end c.enter.ensures.left x.answer) c.read_block.new.scope.nesting c.block_thread-owner-2.result x.nesting c.block_thread-owner-2.ensures.0 c.in_ok-y.y (counted c.read_block-2.new.survey.counts) (λ z. empty_first l h.first_length (f.fine.no_first z)) (λ z. empty_second l h.first_length h.second_length (f.fine.no_second z)) (at_block (sum_block _) _ _ _ _ _ _ _ _ _ y-end y-left y.answer);
-      noted = λ r lt bytes came. record {
-        pausing =
-            c.judged-survey.ensures
-            ∙ (λ i. judged c.args.survey.now.pausing c.read_block-2.new.survey.pausing h.form h.byte c.in_ok-x.x.pauses (c.may_not_pause-own.ensures i))
-            ∙ (λ i. judged c.args.survey.now.pausing c.read_block-2.new.survey.pausing h.form h.byte c.in_ok-x.x.pauses (own_fault (c.statement.ensures i) c.args.survey.now.counts.statements c.args.scope.now.thread))
-            ∙ statement_judged (variables_of c.args.declarations.now) c.args.scope.now.nesting c.args.scope.now.thread (counted c.args.survey.now.counts) c.args.reader.now.end c.args.command (left_of c.args.reader.now) r lt bytes came
-            q f.answer c.par_count-forks.result c.block_thread-owner.result c.block_thread-owner-2.result c.read_block.new.scope.nesting c.read_head.new.reader.place c.leave.new.self.place c.in_ok-x.x (counted c.read_block.new.survey.counts) c.args.survey.now _ _ _ _
-            (record {
-              w_is = c.par_count-forks.ensures.0;
-              t₁_is = c.block_thread-owner.ensures.0;
-              t₂_is = c.block_thread-owner-2.ensures.0;
-              m_is = x.nesting;
-              p₁_is = parts_end l h.first_length h.second_length c.read_head.new.reader.place c.args.reader.now.end long within;
-              p₂_is = one.place ∙ ap (λ k. c.read_head.new.reader.place + k) (sym (taken_long l h.first_length first-few));
-              after_command = past_command c.args.reader.now c.read_head.new.reader f.block lt;
-              x_read = at_block (sum_block _) _ _ _ _ _ _ _ _ _ x-end c.enter.ensures.left x.answer;
-              x_noted = at_noted _ _ _ _ _ _ _ _ _ _ _ _ _ _ _ x-end c.enter.ensures.left c.enter.ensures.place x.noted;
-              y_noted = at_noted _ _ _ _ _ _ _ _ _ _ _ _ _ _ _ y-end y-left c.enter-2.ensures.place y.noted;
-              same_before = refl;
-              same_between = refl;
-            });
-      };
-      few = y.few;
+      answer = ap (λ (z : Counts). Ok (c.built.result, counted z, left_of c.leave-2.new.self)) c.note_row.ensures.counts ∙ told;
+      noted = λ r lt bytes came.
+          let K = statement_known (variables_of c.args.declarations.now) c.args.scope.now.nesting c.args.scope.now.thread (counted S.counts) c.args.reader.now.end c.args.command (left_of c.args.reader.now) r lt bytes came
+          q f.answer c.par_count-forks.result c.block_thread-owner.result c.block_thread-owner-2.result c.read_block.new.scope.nesting c.read_head.new.reader.place c.leave.new.self.place c.in_ok-x.x (counted b) S _ _ _ U
+          (record {
+            w_is = c.par_count-forks.ensures.0;
+            t₁_is = c.block_thread-owner.ensures.0;
+            t₂_is = c.block_thread-owner-2.ensures.0;
+            m_is = x.nesting;
+            p₁_is = parts_end l h.first_length h.second_length c.read_head.new.reader.place c.args.reader.now.end long within;
+            p₂_is = one.place ∙ ap (λ k. c.read_head.new.reader.place + k) (sym (taken_long l h.first_length first-few));
+            after_command = past_command c.args.reader.now c.read_head.new.reader f.block lt;
+            x_read = at_block (sum_block _) _ _ _ _ _ _ _ _ _ x-end c.enter.ensures.left x.answer;
+            x_noted = at_noted _ _ _ _ _ _ _ _ _ _ _ _ _ _ _ _ x-end c.enter.ensures.left c.enter.ensures.place x.noted;
+            y_noted = at_noted _ _ _ _ _ _ _ _ _ _ _ _ _ _ _ _ y-end y-left c.enter-2.ensures.place y.noted;
+            same_before = refl;
+            same_between = refl;
+            rows_before = refl;
+            rows_between = refl;
+          }) in
+          let R = row_known (variables_of c.args.declarations.now) c.args.scope.now.nesting c.args.scope.now.thread (counted S.counts) c.args.reader.now.end c.args.command (left_of c.args.reader.now) r lt bytes came
+          c.args.inside q c.in_ok-x.x c.built.result (counted b) (counted U.counts) S U c.task_of.result (left_of c.leave-2.new.self) K does told in
+          record {
+            pausing =
+                c.note_row.ensures.pausing
+                ∙ c.judged-survey.ensures
+                ∙ (λ i. judged S.pausing U.pausing h.form h.byte c.in_ok-x.x.pauses (c.may_not_pause-own.ensures i))
+                ∙ (λ i. judged S.pausing U.pausing h.form h.byte c.in_ok-x.x.pauses (own_fault (c.statement-place.ensures i) S.counts.statements c.args.scope.now.thread))
+                ∙ K.pausing;
+            rows =
+                c.note_row.ensures.rows
+                ∙ (λ i. set U.rows S.counts.statements (record { task = c.task_of.result; place = c.statement-place.ensures i; thread = c.args.scope.now.thread; inside = c.args.inside; next = next i }))
+                ∙ (λ i. set (K.rows i) S.counts.statements (R i));
+          };
+      few = subst Few (sym c.note_row.ensures.counts) y.few;
       onward = in_turn _ _ _ f.block (onward_past _ _ _ _ _ _ _ one two);
       thread = y.thread ∙ x.thread;
       nesting = y.nesting ∙ x.nesting;

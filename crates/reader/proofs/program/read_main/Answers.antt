@@ -7,10 +7,10 @@ use Rattle.reader.proofs.program.read_main.Goals as goal
 
 pub returns : goal.returns
 returns c =
-    let f = c.in_ok-extent.ensures in let r = c.new-reader.ensures in
-    main_read (variables_of c.args.declarations.now) c.args.from c.args.program.now (search rules) (search rules) c.new-reader.result r.program r.end r.place (bytes_of c.args.program.now c.type-inv.program) c.in_ok-extent.extent c.read_block.new.survey.counts _ _ refl f.answer f.noted
+    let f = c.in_ok-extent.ensures in let r = c.new-reader.ensures in let s = c.new-survey.ensures in
+    main_read (variables_of c.args.declarations.now) c.args.from c.args.program.now (search rules) (search rules) c.new-reader.result r.program r.end r.place c.new-survey.result s.counts (bytes_of c.args.program.now c.type_inv.program) c.in_ok-extent.extent c.read_block.new.survey.counts c.read_block.new.survey s.pausing f.answer f.noted
 
 pub returns-in_err-extent : goal.returns-in_err-extent
 returns-in_err-extent c =
     let f = err_from_is_err_and c.from_residual.result c.from_residual.ensures.1 in let r = c.new-reader.ensures in
-    f.1 ∙ ap Err f.2 ∙ main_stopped (variables_of c.args.declarations.now) c.args.from c.args.program.now (search rules) (search rules) c.new-reader.result r.program r.end r.place _ c.in_err-extent.ensures.answer
+    f.1 ∙ ap Err f.2 ∙ main_stopped (variables_of c.args.declarations.now) c.args.from c.args.program.now (search rules) (search rules) c.new-reader.result r.program r.end r.place c.new-survey.result c.new-survey.ensures.counts _ c.in_err-extent.ensures.answer

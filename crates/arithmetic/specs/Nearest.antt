@@ -1,9 +1,8 @@
 -- Limiting a number gives the nearest number within the limits.
-use Rattle.std.specs.Prelude.{◌≡◌, ℕ, ◌≤◌, Bool, true, false, cond, ℤ, pos, negsuc, ◌-ℤ◌, nat_abs, ◌≤ℤ◌, ◌<ℤ◌, refl}
-use Rattle.std.proofs.Common.{arith, sym, ◌∙◌, ap, subst}
-use Rattle.std.specs.Int.{int_min, int_max}
+use Rattle.std.specs.Prelude.{ℤ, ◌≤ℤ◌}
+use Rattle.std.proofs.Common.{arith}
 use Rattle.std.proofs.lemmas.Int.{ints, clamps}
-use Rattle.arithmetic.specs.Meaning.{Nearest, distance}
+use Rattle.arithmetic.specs.Meaning.{Nearest}
 use Rattle.arithmetic.specs.Plain.{clamped}
 
 pub clamped_nearest : (low high z : ℤ) → low ≤ℤ high → Nearest low high z (clamped low high z)

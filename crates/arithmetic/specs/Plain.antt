@@ -1,5 +1,5 @@
 -- The plain arithmetic: signed 32-bit numbers.
-use Rattle.std.specs.Prelude.{Bool, true, false, cond, not, ◌&&◌, ℤ, pos, ◌+ℤ◌, ◌-ℤ◌, ◌*ℤ◌, int_lt}
+use Rattle.std.specs.Prelude.{Bool, true, false, not, ◌&&◌, ℤ, pos, ◌+ℤ◌, ◌-ℤ◌, ◌*ℤ◌, int_lt}
 use Rattle.std.specs.Int.{int_min, int_max, saturate_to_bits}
 use Rattle.arithmetic.specs.Meaning.{Meaning, Operation, two, inverse}
 use Rattle.arithmetic.specs.declared.operators.Operator.{Operator}

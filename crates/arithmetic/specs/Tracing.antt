@@ -1,7 +1,7 @@
 -- The tracing arithmetic: the plain number, and the mask of the probes that it depends on.
 use Rattle.std.specs.Prelude.{ℕ, ◌^◌, cond, ℤ, bit_or, nat_lt}
 use Rattle.arithmetic.specs.Meaning.{Meaning, Operation, two, inverse}
-use Rattle.arithmetic.specs.Plain.{plain, plain_two, plain_not, plain_combined, clamped}
+use Rattle.arithmetic.specs.Plain.{plain_two, plain_not, plain_combined, clamped}
 use Rattle.arithmetic.specs.declared.operators.Combining.{Combining}
 use Rattle.arithmetic.specs.declared.operators.Combining.TheVariants.{Sum, Least, Greatest, Left}
 use Rattle.arithmetic.specs.declared.traced.Traced.{Traced}

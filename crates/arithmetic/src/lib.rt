@@ -1,4 +1,6 @@
 //! Arithmetics: what a value is, what the operators do to values, and the number that a value shows.
+#![tactic(auto)]
+
 ghost use Rattle.std.specs.Prelude.{◌≡◌, ℤ};
 ghost use Rattle.arithmetic.specs.Meaning.{Meaning, two, inverse, ConstantsShowThemselves, ReadingsShowThemselves, LimitsToTheNearest};
 

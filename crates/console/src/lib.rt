@@ -1,4 +1,6 @@
 //! The console: performs the lines of a job, and answers.
+#![tactic(auto)]
+
 pub mod answer;
 pub mod session;
 pub mod tally;

@@ -1,11 +1,10 @@
 -- A variable's declaration, looked up by its number.
-use Rattle.std.proofs.Common.{◌≡◌, ℕ, ◌<◌, ◌≤◌, Bool, false, List, map, length, get_or, Some, sym, ap, ◌∙◌, arith}
+use Rattle.std.proofs.Common.{◌≡◌, ℕ, ◌<◌, ◌≤◌, Bool, false, List, length, get_or, Some, sym, ap, ◌∙◌, arith}
 use lib.ListN.{length-map}
 use Rattle.std.specs.List.{slice_get}
 use Rattle.std.proofs.lemmas.List.{get_or-map}
 use Rattle.std.proofs.lemmas.Option.{slice_get_past, slice_get-get_or}
 use Rattle.rules.specs.Scopes.{declared_so}
-use Rattle.rules.specs.Variables.{Variable}
 use Rattle.rules.specs.declared.program.Kind.{Kind}
 use Rattle.declarations.specs.Declaring.{variable_of, variables_of}
 use Rattle.declarations.specs.declared.declaration.Declaration.{Declaration}

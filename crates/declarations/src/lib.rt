@@ -1,4 +1,6 @@
 //! Declarations of variables: what can be declared, how declarations are read, and which variables a thread reads and sets.
+#![tactic(auto)]
+
 pub mod declaration;
 pub mod list;
 pub mod program;

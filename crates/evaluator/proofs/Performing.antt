@@ -1,5 +1,5 @@
 -- What the calls of the evaluator leave on the stack is what the commands do to the stacked values.
-use Rattle.std.proofs.Common.{◌≡◌, ℕ, ◌+◌, ◌-◌, ◌<◌, ◌≤◌, true, false, cond, ltb, List, [], ◌∷◌, length, Some, None, Ok, Err, Option, Result, sym, refl, ap, ◌∙◌, subst, arith}
+use Rattle.std.proofs.Common.{◌≡◌, ℕ, ◌<◌, ◌≤◌, cond, List, [], ◌∷◌, length, Some, None, Ok, Err, Result, sym, ap, ◌∙◌, subst, arith}
 use Rattle.std.proofs.lemmas.Bool.{lt-ltb}
 use Rattle.evaluator.specs.Evaluating.{stack_one, operate_one, operate_two}
 use Rattle.stack.specs.Stacks.{stacked, room, popped_value, popped_rest}

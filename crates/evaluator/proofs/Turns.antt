@@ -1,11 +1,10 @@
 -- The evaluator's loop: after each turn, what is left to do gives what the whole gives.
-use Rattle.std.proofs.Common.{◌≡◌, ℕ, zero, suc, ◌+◌, ◌-◌, ◌<◌, ◌≤◌, List, [], ◌∷◌, length, Some, None, Ok, Err, Option, Result, sym, refl, ap, ◌∙◌, subst, arith}
+use Rattle.std.proofs.Common.{◌≡◌, ℕ, zero, suc, ◌-◌, ◌<◌, ◌≤◌, List, [], ◌∷◌, length, Some, None, Ok, Err, Option, Result, sym, refl, ap, ◌∙◌, arith}
 use Rattle.arithmetic.specs.Meaning.{Meaning}
 use Rattle.evaluator.specs.Commands.{Command, next_command, listed, listing, commands_of, Placed}
-use Rattle.evaluator.specs.Evaluating.{performed, step, run, taken}
+use Rattle.evaluator.specs.Evaluating.{performed, run, taken}
 use Rattle.evaluator.specs.Outcomes.{and_then, mapped}
 use Rattle.bounds.specs.declared.refusal.Refusal.{Refusal}
-use Rattle.bounds.specs.declared.refusal.Refusal.TheVariants.{BadExpression}
 
 module _ {V : Type 0} (M : Meaning V) (look : ℕ → Option V) where
   -- With `rest` left of `code` and `st` stacked, the commands left give what all commands give.

@@ -1,5 +1,5 @@
 -- What an expression's value is.
-use Rattle.std.specs.Prelude.{ℕ, Bool, true, false, cond, ◌&&◌, List, [], ◌∷◌, length, take, Some, None, Ok, Err, Option, Result, ◌==◌, nat_le, nat_lt}
+use Rattle.std.specs.Prelude.{ℕ, cond, ◌&&◌, List, [], ◌∷◌, length, take, Some, None, Ok, Err, Option, Result, ◌==◌, nat_le, nat_lt}
 use Rattle.std.specs.List.{slice_get}
 use Rattle.arithmetic.specs.Meaning.{Meaning, two, inverse}
 use Rattle.evaluator.specs.Commands.{Command, constant, variable, operator, inversion, Placed, commands_of}

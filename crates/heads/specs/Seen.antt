@@ -1,5 +1,5 @@
 -- The head of a statement, as the code holds it.
-use Rattle.std.specs.Prelude.{◌≡◌, ℕ, ◌+◌, ◌-◌, ◌<◌, ◌≤◌, true, false, List, [], length, take, drop}
+use Rattle.std.specs.Prelude.{◌≡◌, ℕ, ◌+◌, ◌-◌, ◌<◌, ◌≤◌, true, false, List, length, take, drop}
 use Rattle.rules.specs.Forms.{has_expression, has_block, has_second_block, par_count}
 use Rattle.rules.specs.Reading.{place_of_code, Head as Headed}
 use Rattle.rules.specs.declared.program.Form.{Form}

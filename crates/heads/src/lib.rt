@@ -1,4 +1,6 @@
 //! Reads the heads of statements: all of a statement but its blocks.
+#![tactic(auto)]
+
 pub mod counts;
 pub mod expression;
 pub mod faults;

@@ -1,13 +1,11 @@
 -- What an accepted program's text keeps: its loops are numbered in order, its pausing loops pause, its tick length is the program's.
-use Rattle.std.proofs.Common.{◌≡◌, ℕ, zero, suc, ◌+◌, ◌*◌, ◌≤◌, max, Bool, true, false, not, ◌&&◌, ◌||◌, T, eqb, leb, List, [], ◌∷◌, length, Ok, Err, Result, sym, refl, ap, ◌∙◌, subst, ap₂, arith}
-use Rattle.rules.specs.Encoding.{statement_bytes, block_bytes}
+use Rattle.std.proofs.Common.{◌≡◌, ℕ, zero, suc, ◌+◌, ◌*◌, ◌≤◌, max, Bool, true, false, not, ◌&&◌, ◌||◌, T, leb, List, [], ◌∷◌, length, Ok, Err, Result, sym, refl, ap, subst, ap₂, arith}
+use Rattle.rules.specs.Encoding.{block_bytes}
 use Rattle.rules.specs.Lengths.{length_of, block_length, loop_length, pauses, must_pause, longest_tick, tick_length}
-use Rattle.rules.specs.Numbering.{Mark, Step, Text, number_statement, number_block, text_of}
+use Rattle.rules.specs.Numbering.{number_statement, number_block, text_of}
 use Rattle.rules.specs.Outcomes.{◌>>=◌, ensure}
 use Rattle.rules.specs.Reading.{head_size, idle, statement_pauses, loops_pause, read, read_all, read_declarations, read_block, owners_live, start, most_nested, most_bytes}
-use Rattle.rules.specs.Text.{Stmt, nothing, assign, pause, branch, loop, par, abort, Block, end, ◌then◌, Program, count_of, count, arms, arms_of}
-use Rattle.rules.specs.declared.faults.LoadFault.{LoadFault}
-use Rattle.rules.specs.Variables.{Variable}
+use Rattle.rules.specs.Text.{Stmt, nothing, assign, pause, branch, loop, par, abort, Block, end, ◌then◌, Program, arms}
 use Rattle.laws.proofs.Bound.{Pausing, Sound, SoundS}
 
 -- A step that was gone on with had a result.

@@ -1,5 +1,5 @@
 -- From the exchange of steps: all complete runs have one length and one end.
-use Rattle.std.proofs.Common.{◌≡◌, ℕ, zero, suc, Bool, T, ◌≢◌, List, [], ◌∷◌, length, sym, refl, ap, ◌∙◌, subst}
+use Rattle.std.proofs.Common.{◌≡◌, ℕ, suc, Bool, T, ◌≢◌, List, [], ◌∷◌, length, sym, refl, ap, ◌∙◌, subst}
 use native.Mathlib.Decide.{ℕ_discrete}
 use Rattle.laws.specs.Orders.{Runs, after, Final, Diamond, OneOutcome}
 

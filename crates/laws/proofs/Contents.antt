@@ -1,11 +1,11 @@
 -- What the value memory held before a load leaves no trace.
-use Rattle.std.proofs.Common.{◌≡◌, ℕ, Bool, true, false, eqb, leb, List, [], ◌∷◌, length, ℤ, Ok, Err, Result, sym, refl, ap, ◌∙◌, subst, ap₂}
+use Rattle.std.proofs.Common.{◌≡◌, ℕ, true, false, eqb, leb, List, [], ◌∷◌, length, ℤ, Ok, Err, Result, sym, refl, ap, ◌∙◌, ap₂}
 use Rattle.arithmetic.specs.Meaning.{Meaning}
 use Rattle.evaluator.specs.Evaluating.{all_places}
 use Rattle.rules.specs.Calls.{Call, load, open_tick, step_thread, close, finish, report, Machine, empty, running, inputs, places_of, load_read, load_call, open_closed, open_call, step_call, close_call, finish_call, rates_of, report_call, perform_right, perform}
 use Rattle.rules.specs.Reading.{read}
 use Rattle.rules.specs.Report.{report_size}
-use Rattle.rules.specs.Runs.{Reference, nothing_yet, was_accepted, feed, both_after, after_calls}
+use Rattle.rules.specs.Runs.{Reference, nothing_yet, was_accepted, feed, both_after}
 use Rattle.rules.specs.Stepping.{ready?}
 use Rattle.rules.specs.Text.{Program}
 use Rattle.rules.specs.Threads.{Config, closable, is_ended}

@@ -1,19 +1,19 @@
 -- Copies and stores of shared variables stay within their declared limits, from step to step and from tick to tick.
-use Rattle.std.proofs.Common.{◌≡◌, ℕ, zero, suc, ◌+◌, ◌<◌, ◌≤◌, Bool, true, false, cond, not, ◌&&◌, eqb, ltb, ◌⊎◌, List, [], ◌∷◌, length, get_or, set, ℤ, ◌≤ℤ◌, Some, None, Option, sym, refl, ap, ◌∙◌, subst, inl, inr, ⊎_elim, arith}
+use Rattle.std.proofs.Common.{◌≡◌, ℕ, zero, suc, ◌+◌, ◌<◌, Bool, true, false, cond, not, ◌&&◌, eqb, ltb, List, [], ◌∷◌, length, get_or, set, ℤ, ◌≤ℤ◌, Some, None, Option, sym, refl, ap, ◌∙◌, subst, ⊎_elim, arith}
 use Rattle.std.proofs.lemmas.List.{get_or-set_same, get_or-set_other, get_or_past, set_past}
 use Rattle.std.proofs.lemmas.Bool.{cases_lt, cases_eq, and_parts}
 use Rattle.arithmetic.specs.Meaning.{Meaning, LimitsToTheNearest}
-use Rattle.rules.specs.Going.{go_on, arriving, with_passes, with_mark, goes_out, all_out, ends_weakly, becomes, weak_abort}
+use Rattle.rules.specs.Going.{go_on, arriving, goes_out, all_out, ends_weakly, becomes, weak_abort}
 use Rattle.rules.specs.Joining.{for-each, arms_at, with_arms, chosen, joined_value, join_at, joined, join, join_if, settle}
 use Rattle.rules.specs.Numbering.{Mark, Step, Text}
-use Rattle.rules.specs.Opening.{sample, sampled, copied, copied_value, Judged, goes, ends, judge, judge_one, judge_further, resume, open_thread, open_below, opening}
+use Rattle.rules.specs.Opening.{sample, copied, copied_value, Judged, goes, ends, judge, judge_one, judge_further, resume, open_thread, open_below, opening}
 use Rattle.rules.specs.Scopes.{is_shared, is_input}
-use Rattle.rules.specs.Stepping.{assigned, arm_value, arm_memo, begins, act, own_step, step_via, step_in, step_below, step, set_first, set_second, may_enter}
+use Rattle.rules.specs.Stepping.{assigned, arm_value, arm_memo, begins, act, own_step, step_via, step_in, step_below, step, may_enter}
 use Rattle.rules.specs.Text.{nothing, assign, pause, branch, loop, par, abort, end, ◌then◌}
-use Rattle.rules.specs.Threads.{After, leave, on, again, out_of, Place, at, at_end, State, fresh, ready, waiting, held, paused, ended, past, out, Memo, Own, Arms, no_arms, both, Thread, thread, is, Config, quiet, over, closable, takes_part, waits}
+use Rattle.rules.specs.Threads.{After, leave, on, again, out_of, Place, at, at_end, State, fresh, ready, waiting, held, paused, ended, past, out, Memo, Own, Arms, no_arms, both, Thread, is, Config, quiet, over, closable, takes_part, waits}
 use Rattle.rules.specs.Ticks.{closing, closed_store, run_on}
 use Rattle.rules.specs.Stepping.{lowest}
-use Rattle.rules.specs.Values.{declared, undeclared, zero_value, value, holds}
+use Rattle.rules.specs.Values.{declared, undeclared, zero_value, holds}
 use Rattle.rules.specs.declared.program.Kind.{Kind}
 use Rattle.rules.specs.declared.program.Kind.TheVariants as Kinds
 use Rattle.rules.specs.Variables.{Variable}

@@ -1,16 +1,15 @@
 -- The order of steps leaves no trace.
-use Rattle.std.proofs.Common.{◌≡◌, ℕ, zero, suc, ◌+◌, ◌≤◌, Bool, true, false, ◌&&◌, T, eqb, ◌⊎◌, List, [], ◌∷◌, ◌++◌, map, length, ℤ, sym, refl, ap, ◌∙◌, subst, ap₂, inl, inr, arith, length-append}
+use Rattle.std.proofs.Common.{◌≡◌, ℕ, ◌+◌, Bool, true, false, T, eqb, ◌⊎◌, List, [], ◌∷◌, ◌++◌, map, length, ℤ, sym, refl, ap, ◌∙◌, subst, ap₂, inl, inr, arith, length-append}
 use Rattle.arithmetic.specs.Meaning.{Meaning}
 use Rattle.evaluator.specs.Evaluating.{all_places}
-use Rattle.rules.specs.Calls.{Call, step_thread, close, finish, Machine, empty, running, places_of, step_call, close_call, finish_call, perform_right, perform}
-use Rattle.rules.specs.Lengths.{block_length, tick_length}
+use Rattle.rules.specs.Calls.{Call, step_thread, close, finish, Machine, empty, running, places_of, step_call, close_call, perform_right, perform}
+use Rattle.rules.specs.Lengths.{block_length}
 use Rattle.rules.specs.Numbering.{text_of}
-use Rattle.rules.specs.Promises.{Agrees, ReportsAgree, Counts, Open, Accepts, StepOrClose, OrderLeavesNoTraceIn, OrderLeavesNoTrace}
-use Rattle.rules.specs.Runs.{Reference, nothing_yet, having, was_accepted, feed, both_after, after_calls}
-use Rattle.rules.specs.Stepping.{ready?, step}
+use Rattle.rules.specs.Promises.{Agrees, ReportsAgree, Counts, Open, Accepts, StepOrClose, OrderLeavesNoTrace}
+use Rattle.rules.specs.Runs.{Reference, nothing_yet, was_accepted, feed, both_after, after_calls}
+use Rattle.rules.specs.Stepping.{ready?}
 use Rattle.rules.specs.Text.{Program, arms}
-use Rattle.rules.specs.Threads.{State, fresh, ready, waiting, held, paused, ended, past, out, Arms, no_arms, both, Thread, Config, closable, is_ended, quiet}
-use Rattle.rules.specs.Ticks.{finishing}
+use Rattle.rules.specs.Threads.{State, fresh, ready, waiting, held, paused, ended, past, out, Arms, no_arms, both, Thread, Config, closable, is_ended}
 use Rattle.rules.specs.declared.answers.Answer.{Answer}
 use Rattle.rules.specs.declared.answers.Answer.TheVariants.{Steps, Refused}
 use Rattle.rules.specs.declared.refusals.CallRefusal.TheVariants as Refusal
@@ -20,7 +19,7 @@ use Rattle.laws.specs.Finishing.{FinishingIsAnyOrder}
 use Rattle.laws.specs.Joins.{WhereItWaits, NoneDueBelow, NoJoinDue, NoJoinDueIn, NoJoinStaysDue}
 use Rattle.laws.proofs.Progress.{Shape, shape, Good, GoodIn, GoodBelow, some_or_closable, closable_none, SomeIn}
 use Rattle.laws.proofs.Steps.{both_ways}
-use Rattle.laws.proofs.Trace.{Beside, at_first, resting, amid, calls_beside, Right, Fine, Shut, opened, stepper, amidst, ticked, Ends, ends_here, Finished, finished, kept_here, short_here, after_append, runs_append}
+use Rattle.laws.proofs.Trace.{Beside, at_first, resting, amid, calls_beside, Right, Fine, Shut, opened, stepper, amidst, ticked, ends_here, finished, kept_here, short_here, after_append, runs_append}
 
 same_steps : (j k : ℕ) → Steps j ≡ Steps k → j ≡ k
 same_steps j k e = cc

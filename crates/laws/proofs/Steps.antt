@@ -1,10 +1,10 @@
 -- The steps of two different ready threads can be exchanged.
-use Rattle.std.proofs.Common.{◌≡◌, ℕ, zero, suc, Bool, true, false, ◌&&◌, T, eqb, ltb, ◌≢◌, List, [], ◌∷◌, Some, None, Option, sym, refl, ap, ◌∙◌, subst, eqb→eq}
+use Rattle.std.proofs.Common.{◌≡◌, ℕ, Bool, true, false, ◌&&◌, T, eqb, ltb, ◌≢◌, List, Some, sym, refl, ap, ◌∙◌, subst, eqb→eq}
 use mathlib.Core.Bool.{and-false}
 use Rattle.arithmetic.specs.Meaning.{Meaning}
 use Rattle.rules.specs.Joining.{arms_at, join_if, settle}
 use Rattle.rules.specs.Numbering.{Mark, Text}
-use Rattle.rules.specs.Stepping.{step_below, step_in, step, ready_below, ready_in, ready?, set_first, set_second, ready_via, step_via, own_step}
+use Rattle.rules.specs.Stepping.{step_below, step_in, step, ready_below, ready_in, ready?, set_first, set_second, ready_via}
 use Rattle.rules.specs.Threads.{After, State, fresh, ready, waiting, held, paused, ended, past, out, Memo, Own, Thread, Arms, no_arms, both, thread, is, waits, quiet, is_ready}
 use Rattle.rules.specs.Variables.{Variable}
 use Rattle.laws.specs.Orders.{Diamond}

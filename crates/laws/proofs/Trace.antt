@@ -1,16 +1,15 @@
 -- Whatever is called in whatever order, the machine goes along with the left-to-right run.
-use Rattle.std.proofs.Common.{◌≡◌, ℕ, zero, suc, ◌+◌, ◌*◌, ◌<◌, ◌≤◌, Bool, true, false, T, eqb, leb, ◌⊎◌, List, [], ◌∷◌, ◌++◌, length, ℤ, Ok, Err, Result, sym, refl, ap, ◌∙◌, subst, ap₂, inl, inr, arith, length-append}
+use Rattle.std.proofs.Common.{◌≡◌, ℕ, ◌+◌, ◌*◌, ◌≤◌, Bool, true, false, T, eqb, leb, List, [], ◌∷◌, ◌++◌, length, ℤ, Ok, Err, Result, sym, refl, ap, ◌∙◌, subst, ap₂, arith, length-append}
 use Rattle.arithmetic.specs.Meaning.{Meaning}
 use Rattle.evaluator.specs.Evaluating.{all_places}
-use Rattle.rules.specs.Calls.{Call, load, open_tick, step_thread, close, finish, report, Machine, empty, running, inputs, places_of, load_read, load_call, open_closed, open_call, stepped, step_call, close_call, finish_call, rates_of, report_call, perform_right, perform}
+use Rattle.rules.specs.Calls.{Call, load, open_tick, step_thread, close, finish, report, Machine, empty, running, inputs, places_of, load_read, open_closed, step_call, close_call, finish_call, rates_of, report_call, perform_right, perform}
 use Rattle.rules.specs.Lengths.{block_length, tick_length}
 use Rattle.rules.specs.Numbering.{text_of}
 use Rattle.rules.specs.Opening.{opening}
-use Rattle.rules.specs.Promises.{Agrees, Counts, Open, Accepts, StepOrClose, OrderLeavesNoTraceIn, OrderLeavesNoTrace}
 use Rattle.rules.specs.Reading.{read}
 use Rattle.rules.specs.Report.{report_size}
-use Rattle.rules.specs.Runs.{Reference, nothing_yet, having, was_accepted, load_reference, feed_accepted, feed, both_after, after_calls}
-use Rattle.rules.specs.Stepping.{ready?, ready_below, step}
+use Rattle.rules.specs.Runs.{Reference, nothing_yet, having, was_accepted, load_reference, feed_accepted, feed, both_after}
+use Rattle.rules.specs.Stepping.{ready?, step}
 use Rattle.rules.specs.Text.{Program, arms}
 use Rattle.rules.specs.Threads.{Thread, Config, closable, is_ended}
 use Rattle.rules.specs.Ticks.{closing, finishing, tick, loaded}
@@ -19,7 +18,7 @@ use Rattle.laws.specs.Orders.{Runs, after, Final}
 use Rattle.laws.proofs.Accepted.{accepted_sound, text_length}
 use Rattle.laws.proofs.Bound.{Sound, cost_within, run_short}
 use Rattle.laws.proofs.Loading.{numbered_text}
-use Rattle.laws.proofs.Progress.{Kept, kept_run, finishes, some_or_closable, closable_none, SomeIn}
+use Rattle.laws.proofs.Progress.{Kept, kept_run, finishes, closable_none}
 use Rattle.laws.proofs.Steps.{both_ways}
 use Rattle.laws.proofs.Whole.{Closed, loaded_closed, opened_kept, tick_law}
 

@@ -1,13 +1,13 @@
 -- The law of a tick: whatever the order of steps, it ends as the left-to-right run's, after as many steps, within the tick length.
-use Rattle.std.proofs.Common.{◌≡◌, ℕ, zero, suc, ◌+◌, ◌<◌, ◌≤◌, Bool, true, false, T, List, [], ◌∷◌, length, ℤ, sym, refl, ap, ◌∙◌, subst, arith}
+use Rattle.std.proofs.Common.{◌≡◌, ℕ, ◌+◌, ◌<◌, ◌≤◌, Bool, true, false, T, List, length, ℤ, sym, refl, ap, subst, arith}
 use Rattle.arithmetic.specs.Meaning.{Meaning}
 use Rattle.rules.specs.Lengths.{block_length}
 use Rattle.rules.specs.Numbering.{Text}
-use Rattle.rules.specs.Opening.{open_thread, open_below, opening, sample}
+use Rattle.rules.specs.Opening.{open_thread, open_below, opening}
 use Rattle.rules.specs.Stepping.{ready?, step}
 use Rattle.rules.specs.Text.{arms}
-use Rattle.rules.specs.Threads.{State, fresh, ready, waiting, held, paused, ended, past, out, Memo, Own, Thread, Arms, Config, thread, is, quiet, closable, takes_part, is_ended}
-use Rattle.rules.specs.Ticks.{run_on, closing, finishing, tick, loaded, new_memo, arms_of_text}
+use Rattle.rules.specs.Threads.{State, fresh, ready, waiting, held, paused, ended, past, out, Memo, Thread, Arms, Config, thread, is, quiet, closable, takes_part, is_ended}
+use Rattle.rules.specs.Ticks.{closing, tick, loaded, new_memo, arms_of_text}
 use Rattle.rules.specs.Variables.{Variable}
 use Rattle.laws.specs.Orders.{Runs, after, Final}
 use Rattle.laws.proofs.Bound.{InvOf, Sound, opened_fresh, opened_again}

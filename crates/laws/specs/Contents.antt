@@ -1,5 +1,5 @@
 -- What the value memory held before a load.
-use Rattle.std.specs.Prelude.{◌≡◌, ℕ, List, [], ◌∷◌, length}
+use Rattle.std.specs.Prelude.{◌≡◌, List, [], ◌∷◌, length}
 use Rattle.arithmetic.specs.Meaning.{Meaning}
 use Rattle.rules.specs.Calls.{Call, Machine, empty, running, perform}
 use Rattle.rules.specs.Runs.{after_calls}

@@ -1,5 +1,5 @@
 -- Step counts that stay within the tick length.
-use Rattle.std.specs.Prelude.{ℕ, ◌≤◌, List}
+use Rattle.std.specs.Prelude.{◌≤◌, List}
 use Rattle.arithmetic.specs.Meaning.{Meaning}
 use Rattle.rules.specs.Calls.{Call, Machine, empty, running}
 use Rattle.rules.specs.Lengths.{tick_length}

@@ -1,7 +1,7 @@
 -- Finishing, and stepping in any order.
-use Rattle.std.specs.Prelude.{◌≡◌, ℕ, true, List, map}
+use Rattle.std.specs.Prelude.{◌≡◌, ℕ, List, map}
 use Rattle.arithmetic.specs.Meaning.{Meaning}
-use Rattle.rules.specs.Calls.{Call, step_thread, close, finish, Machine, perform}
+use Rattle.rules.specs.Calls.{Call, step_thread, close, finish, perform}
 use Rattle.rules.specs.Promises.{Open, Accepts}
 use Rattle.rules.specs.Runs.{both_after, after_calls}
 

@@ -1,5 +1,5 @@
 -- Joins that are due.
-use Rattle.std.specs.Prelude.{◌≡◌, ℕ, Bool, true, false, ◌&&◌, List, ◌==◌}
+use Rattle.std.specs.Prelude.{◌≡◌, ℕ, true, false, ◌&&◌, List, ◌==◌}
 use Rattle.arithmetic.specs.Meaning.{Meaning}
 use Rattle.rules.specs.Calls.{Call, Machine, empty, running}
 use Rattle.rules.specs.Runs.{after_calls}

@@ -1,5 +1,5 @@
 -- Rates within their limits.
-use Rattle.std.specs.Prelude.{◌≡◌, ℕ, Bool, true, false, List, ◌≤ℤ◌, slice_index_or}
+use Rattle.std.specs.Prelude.{◌≡◌, ℕ, true, List, ◌≤ℤ◌, slice_index_or}
 use Rattle.arithmetic.specs.Meaning.{Meaning}
 use Rattle.rules.specs.Calls.{Call, Machine, empty, running}
 use Rattle.rules.specs.Runs.{after_calls}

@@ -1,11 +1,11 @@
 -- What a line asks for, piece by piece.
-use Rattle.std.proofs.Common.{◌≡◌, ℕ, ◌<◌, ◌≤◌, true, false, leb, List, [], ◌∷◌, length, ℤ, IsErrAnd, Ok, Err, Result, sym, refl, ap, ◌∙◌, subst, arith, Bor}
+use Rattle.std.proofs.Common.{◌≡◌, ℕ, ◌<◌, ◌≤◌, true, false, List, [], ◌∷◌, length, ℤ, IsErrAnd, Ok, Err, Result, sym, refl, ap, ◌∙◌, subst, arith, Bor}
 use Rattle.std.proofs.lemmas.Result.{err_from_is_err_and}
 use Rattle.std.proofs.lemmas.Bool.{cond-true, cond-false, le-leb, lt-leb}
 use Rattle.evaluator.specs.Outcomes.{and_then, mapped}
 use Rattle.words.specs.Decimal.{numbers_from}
 use Rattle.words.specs.Hexadecimal.{expression_at}
-use Rattle.lines.specs.Lines.{Asked, asked, limits_in, readings_in, evaluation_in, line_of, command_line, comment, nothing}
+use Rattle.lines.specs.Lines.{asked, limits_in, readings_in, evaluation_in, line_of, command_line, comment, nothing}
 use Rattle.words.specs.Outcomes.{Gives}
 use Rattle.words.specs.Splitting.{texts}
 use Rattle.words.specs.declared.problem.Problem.{Problem}

@@ -1,5 +1,5 @@
 -- Words that are compared with names, and lists of words by their length.
-use Rattle.std.proofs.Common.{◌≡◌, ℕ, ◌-◌, ◌<◌, ◌≤◌, Bool, true, false, cond, List, [], ◌∷◌, ◌++◌, length, get_or, take, drop, Ok, Err, codes, sym, refl, ap, ◌∙◌, arith, Bor}
+use Rattle.std.proofs.Common.{◌≡◌, ℕ, ◌-◌, ◌<◌, ◌≤◌, Bool, true, false, List, [], ◌∷◌, ◌++◌, length, get_or, take, drop, Ok, Err, codes, sym, refl, ap, ◌∙◌, arith, Bor}
 use lib.Utf8.{encode}
 use Rattle.std.proofs.lemmas.List.{take_all}
 use Rattle.std.proofs.lemmas.Slice.Eq.{bytes_eq-Decides}
@@ -7,7 +7,7 @@ use Rattle.std.proofs.lemmas.Bool.{cond-false, eq-eqb, eqb-true}
 use Rattle.std.specs.Str.{bytes_eq}
 use Rattle.lines.specs.Lines.{Said, choice_named, choice_in, only_word, command_line, comment}
 use Rattle.words.specs.Splitting.{texts}
-use Rattle.words.specs.declared.problem.Problem.TheVariants.{NoSuchArithmetic, NoSuchCommand, ExtraWord, MissingWord}
+use Rattle.words.specs.declared.problem.Problem.TheVariants.{NoSuchArithmetic, NoSuchCommand, ExtraWord}
 
 false_unless : (b : Bool) → (b ≡ true → ⊥) → b ≡ false
 false_unless true never = absurd (never refl)

@@ -1,5 +1,5 @@
 -- A program is read by its declarations, its main block, its owners, its pausing loops and its tick length, in turn.
-use Rattle.std.proofs.Common.{◌≡◌, ℕ, suc, ◌+◌, ◌-◌, ◌*◌, ◌^◌, ◌<◌, ◌≤◌, min, Bool, true, false, ◌&&◌, leb, List, length, drop, Ok, Err, Result, sym, refl, ap, ◌∙◌, ⊎_elim, arith}
+use Rattle.std.proofs.Common.{◌≡◌, ℕ, ◌+◌, ◌-◌, ◌*◌, ◌^◌, Bool, true, false, leb, List, length, drop, Ok, Err, Result, sym, refl, ap, ◌∙◌, ⊎_elim, arith}
 use Rattle.std.proofs.lemmas.Bool.{cases_Bool, le-leb, lt-leb, leb-true, leb-false, and_from}
 use Rattle.evaluator.specs.Outcomes.{mapped}
 use Rattle.rules.specs.Lengths.{block_length, longest_tick}
@@ -9,13 +9,12 @@ use Rattle.rules.specs.Text.{Block, Program, count, arms}
 use Rattle.rules.specs.Variables.{Variable}
 use Rattle.rules.specs.declared.faults.LoadFault.{LoadFault}
 use Rattle.rules.specs.declared.faults.LoadFault.TheVariants.{TickTooLong}
-use Rattle.declarations.specs.Listing.{read_main as main-onward}
 use Rattle.declarations.proofs.Onward.{Declares}
 use Rattle.heads.proofs.Binding.{bind_ok, ensure_ok, mapped_ok, mapped_err}
 use Rattle.reader.specs.Extents.{capped}
 use Rattle.reader.specs.Summaries.{main_in, summary}
 use Rattle.reader.specs.declared.program.Summary.{Summary}
-use Rattle.loader.specs.Outlines.{Outline, outline_of, in_time}
+use Rattle.loader.specs.Outlines.{outline_of, in_time}
 
 -- A length that stops at the largest number is over the limit if the exact one is.
 same_test : (n : ℕ) → leb (capped n + 1) longest_tick ≡ leb (n + 1) longest_tick

@@ -1,5 +1,5 @@
 -- What is known of a program that was read.
-use Rattle.std.specs.Prelude.{ℕ, ◌+◌, true, false, List, Ok, Err, Result, nat_le}
+use Rattle.std.specs.Prelude.{ℕ, ◌+◌, List, Ok, Result, nat_le}
 use Rattle.rules.specs.Lengths.{tick_length, longest_tick}
 use Rattle.rules.specs.Outcomes.{◌>>=◌, ensure}
 use Rattle.rules.specs.Text.{Program, count, arms}

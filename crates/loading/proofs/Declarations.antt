@@ -15,9 +15,7 @@ use Rattle.rules.specs.Reading.{kinds, policies, combinings, zeros_right, read_d
 use Rattle.rules.specs.Valid.{Declared}
 use Rattle.rules.specs.declared.faults.LoadFault.{LoadFault}
 use Rattle.rules.specs.declared.program.Kind.{Kind}
-use Rattle.rules.specs.declared.program.Kind.TheVariants as Kind
 use Rattle.rules.specs.declared.program.Policy.{Policy}
-use Rattle.rules.specs.declared.program.Policy.TheVariants as Policy
 use Rattle.rules.specs.Variables.{Variable}
 use Rattle.loading.proofs.Numbers.{Bytes, signed_back, signed_fits, signed_bytes_back}
 use Rattle.loading.proofs.Results.{bind_ok, bind_inv, some_ok, some_then, ensure_ok, ensure_then, same_ok, numbered_from}

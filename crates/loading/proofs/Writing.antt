@@ -1,10 +1,9 @@
 -- Writing a valid program, and reading it back.
-use Rattle.std.proofs.Common.{◌≡◌, Ok, Result, sym, refl, ap, ◌∙◌}
+use Rattle.std.proofs.Common.{◌≡◌, Ok, Result, sym, refl, ◌∙◌}
 use Rattle.rules.specs.Encoding.{encode}
-use Rattle.rules.specs.Reading.{read}
 use Rattle.rules.specs.Text.{Program}
 use Rattle.rules.specs.declared.faults.LoadFault.{LoadFault}
-use Rattle.loading.specs.Writing.{WrittenIsRead, WritingTellsApart, InBytes}
+use Rattle.loading.specs.Writing.{WrittenIsRead, WritingTellsApart}
 use Rattle.loading.proofs.Whole.{loading_accepts_the_valid}
 
 pub written_is_read : WrittenIsRead

@@ -1,5 +1,5 @@
 -- Valid programs and the bytes that they are written as.
-use Rattle.std.specs.Prelude.{◌≡◌, ℕ, ◌<◌, ◌∷◌, Ok}
+use Rattle.std.specs.Prelude.{◌≡◌, ◌<◌, Ok}
 use Rattle.std.specs.List.{AllByRecursion as All}
 use Rattle.rules.specs.Encoding.{encode}
 use Rattle.rules.specs.Reading.{read}

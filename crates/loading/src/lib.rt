@@ -1,2 +1,4 @@
 //! Loading accepts exactly the valid programs.
+#![tactic(auto)]
+
 pub mod promises;

@@ -1,4 +1,6 @@
 //! Reads a job from standard input, performs it line by line, and prints the answers.
+#![tactic(auto)]
+
 ghost use Rattle.std.specs.Prelude.{◌≡◌, ◌+◌, ◌-◌, ◌^◌, min};
 
 use console::answer::Answer;

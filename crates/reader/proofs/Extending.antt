@@ -6,7 +6,6 @@ use Rattle.rules.specs.Lengths.{length_of, block_length, pauses, must_pause}
 use Rattle.rules.specs.Text.{Expression, Stmt, branch, loop, par, abort, Block, ◌then◌}
 use Rattle.rules.specs.Forms.{build}
 use Rattle.rules.specs.declared.program.Form.{Form}
-use Rattle.rules.specs.declared.program.Form.TheVariants as Form
 use Rattle.reader.specs.declared.extents.Extent.{Extent}
 use Rattle.reader.specs.Extents.{capped, extent, extent_of, joined, either, looped, paired, aborted, built}
 

@@ -1,5 +1,5 @@
 -- What a reader has left, block after block.
-use Rattle.std.proofs.Common.{◌≡◌, ℕ, suc, ◌+◌, ◌-◌, ◌<◌, ◌≤◌, min, max, List, [], length, take, drop, sym, refl, ap, ◌∙◌, ap₂, arith, length-drop, length-take}
+use Rattle.std.proofs.Common.{◌≡◌, ℕ, suc, ◌+◌, ◌-◌, ◌<◌, ◌≤◌, min, max, List, [], length, take, drop, refl, ap, ◌∙◌, arith, length-drop, length-take}
 use Rattle.heads.specs.Readers.{bytes_between, left_of, SameBlock}
 use Rattle.heads.specs.declared.reader.Reader.{Reader}
 use Rattle.heads.proofs.Lefts.{between_long, later}

@@ -1,5 +1,5 @@
 -- Main's block, as the code reads it.
-use Rattle.std.proofs.Common.{◌≡◌, ℕ, zero, suc, ◌-◌, ◌<◌, ◌≤◌, min, List, [], ◌∷◌, length, get_or, take, drop, None, Ok, Err, Result, sym, refl, ap, ◌∙◌, subst, arith, w8, Fits}
+use Rattle.std.proofs.Common.{◌≡◌, ℕ, zero, suc, ◌<◌, ◌≤◌, min, List, [], ◌∷◌, length, get_or, drop, None, Ok, Err, Result, sym, refl, ap, ◌∙◌, subst, arith, w8, Fits}
 use Rattle.std.specs.List.{AllByRecursion as All}
 use Rattle.std.proofs.lemmas.List.{take_rest}
 use Rattle.std.proofs.lemmas.Bool.{le-leb, and_from}
@@ -14,10 +14,9 @@ use Rattle.heads.specs.Readers.{bytes_between, left_of}
 use Rattle.heads.specs.declared.counts.Counts.{Counts as Kept}
 use Rattle.heads.specs.declared.reader.Reader.{Reader}
 use Rattle.heads.proofs.Binding.{bind_ok, ensure_ok, mapped_ok, mapped_err}
-use Rattle.reader.specs.Extents.{extent}
 use Rattle.reader.specs.Noting.{BlockNoted}
 use Rattle.reader.specs.Summaries.{main_in, summary}
-use Rattle.reader.specs.Told.{after_block, sum_block}
+use Rattle.reader.specs.Told.{sum_block}
 use Rattle.reader.specs.declared.extents.Extent.{Extent}
 use Rattle.reader.specs.declared.survey.Survey.{Survey}
 use Rattle.reader.proofs.Notes.{at_noted}

@@ -1,13 +1,12 @@
 -- A statement is noted by its blocks.
-use Rattle.std.proofs.Common.{◌≡◌, ℕ, suc, ◌+◌, ◌-◌, ◌*◌, ◌<◌, ◌≤◌, Bool, List, ◌∷◌, ◌++◌, length, Some, Ok, Err, Option, Result, sym, refl, ap, ◌∙◌, subst, arith, length-append}
+use Rattle.std.proofs.Common.{◌≡◌, ℕ, suc, ◌+◌, ◌-◌, ◌<◌, List, ◌++◌, length, Some, Ok, Option, sym, refl, ap, ◌∙◌, subst, arith, length-append}
 use Rattle.evaluator.specs.Outcomes.{mapped}
 use Rattle.rules.specs.Encoding.{statement_bytes, block_bytes}
 use Rattle.rules.specs.Forms.{par_count, build}
-use Rattle.rules.specs.Lengths.{must_pause}
 use Rattle.rules.specs.Numbering.{Step, number_statement, number_block}
 use Rattle.rules.specs.Outcomes.{◌>>=◌}
-use Rattle.rules.specs.Reading.{Counts, Head as Headed, after_statement, before_first, before_second, block_thread, place_of_code, read_statement, read_block, loops_pause, statement_pauses}
-use Rattle.rules.specs.Text.{Stmt, Block, count, arms, count_of}
+use Rattle.rules.specs.Reading.{Counts, after_statement, before_first, block_thread, place_of_code, read_statement, read_block, loops_pause, statement_pauses}
+use Rattle.rules.specs.Text.{Stmt, arms, count_of}
 use Rattle.rules.specs.Variables.{Variable}
 use Rattle.rules.specs.declared.faults.LoadFault.{LoadFault}
 use Rattle.rules.specs.declared.faults.LoadFault.TheVariants.{Statement}
@@ -18,7 +17,7 @@ use Rattle.heads.specs.Seen.{Seen, seen_head}
 use Rattle.heads.specs.Sites.{head_at}
 use Rattle.heads.proofs.Binding.{refused_ok, same_ok}
 use Rattle.reader.specs.Extents.{extent}
-use Rattle.reader.specs.Noting.{judged, Noted, NotedOne, BlockNoted}
+use Rattle.reader.specs.Noting.{judged, BlockNoted}
 use Rattle.reader.specs.Tasks.{number_if, built_task}
 use Rattle.reader.specs.Told.{after_block, sum_block, sum_statement}
 use Rattle.reader.specs.declared.extents.Extent.{Extent}
@@ -27,7 +26,6 @@ use Rattle.reader.proofs.Pauses.{noted_by_form}
 use Rattle.reader.proofs.Rows.{number_is, task_is, filled_by_form}
 use Rattle.table.specs.Filling.{filled, filled_in}
 use Rattle.table.specs.Rows.{task, row}
-use Rattle.table.specs.declared.rows.Row.{Row}
 use Rattle.table.specs.declared.rows.Task.{Task}
 
 -- A block is noted by an end, bytes and a place that are the same.

@@ -1,16 +1,15 @@
 -- A statement's pausing loops, by its blocks.
-use Rattle.std.proofs.Common.{◌≡◌, ℕ, ◌+◌, ◌-◌, ◌*◌, Bool, true, false, cond, not, ◌&&◌, eqb, List, length, Ok, Err, Result, sym, refl, ap, ◌∙◌, arith}
+use Rattle.std.proofs.Common.{◌≡◌, ℕ, ◌+◌, ◌-◌, Bool, true, false, cond, not, ◌&&◌, eqb, length, Ok, Err, Result, refl, ap, ◌∙◌, arith}
 use Rattle.rules.specs.Encoding.{statement_bytes, block_bytes}
 use Rattle.rules.specs.Forms.{has_block, has_second_block, par_count, build}
 use Rattle.rules.specs.Lengths.{must_pause}
 use Rattle.rules.specs.Outcomes.{◌>>=◌, ensure}
 use Rattle.rules.specs.Reading.{block_thread, loops_pause, statement_pauses}
-use Rattle.rules.specs.Text.{Expression, Stmt, Block, end, count, arms}
+use Rattle.rules.specs.Text.{Expression, Block, end, count, arms}
 use Rattle.rules.specs.declared.faults.LoadFault.{LoadFault}
 use Rattle.rules.specs.declared.faults.LoadFault.TheVariants.{Statement}
 use Rattle.rules.specs.declared.faults.StatementFault.TheVariants.{MayNotPause}
 use Rattle.rules.specs.declared.program.Form.{Form}
-use Rattle.rules.specs.declared.program.Form.TheVariants as Form
 use Rattle.reader.specs.Noting.{judged}
 
 -- Verdicts.

@@ -1,21 +1,21 @@
 -- A block is noted statement by statement.
-use Rattle.std.proofs.Common.{◌≡◌, ℕ, zero, suc, ◌+◌, ◌-◌, ◌<◌, ◌≤◌, List, [], ◌∷◌, ◌++◌, length, set, Ok, Err, Option, Result, sym, refl, ap, ◌∙◌, subst, arith, length-append}
+use Rattle.std.proofs.Common.{◌≡◌, ℕ, zero, suc, ◌+◌, ◌-◌, ◌<◌, ◌≤◌, List, [], ◌∷◌, length, set, Ok, Option, Result, sym, refl, ap, ◌∙◌, subst, arith, length-append}
 use Rattle.evaluator.specs.Outcomes.{mapped}
 use Rattle.rules.specs.Encoding.{statement_bytes}
-use Rattle.rules.specs.Numbering.{Mark, number_statement, number_block}
+use Rattle.rules.specs.Numbering.{number_statement, number_block}
 use Rattle.rules.specs.Outcomes.{◌>>=◌}
 use Rattle.rules.specs.Reading.{Counts, after_statement, read_statement, read_statements, read_block, loops_pause, statement_pauses}
 use Rattle.rules.specs.Text.{Stmt, Block, end, ◌then◌, count_of, arms_of}
 use Rattle.rules.specs.Variables.{Variable}
 use Rattle.rules.specs.declared.faults.LoadFault.{LoadFault}
 use Rattle.loading.proofs.Numbers.{Bytes}
-use Rattle.loading.proofs.Read.{StatementCame, statement_came}
+use Rattle.loading.proofs.Read.{statement_came}
 use Rattle.heads.proofs.Binding.{bind_inv, same_ok}
 use Rattle.table.specs.Filling.{filled, filled_in}
 use Rattle.table.specs.Rows.{first_of, row}
 use Rattle.table.specs.declared.rows.Row.{Row}
 use Rattle.reader.specs.Tasks.{number_if}
-use Rattle.reader.specs.Noting.{Noted, NotedOne, BlockNoted, StatementNoted}
+use Rattle.reader.specs.Noting.{BlockNoted, StatementNoted}
 use Rattle.reader.specs.Told.{sum_statement}
 use Rattle.reader.specs.declared.extents.Extent.{Extent}
 use Rattle.reader.specs.declared.survey.Survey.{Survey}

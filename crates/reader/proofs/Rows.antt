@@ -1,21 +1,19 @@
 -- The row of a statement, and the rows of its blocks.
-use Rattle.std.proofs.Common.{◌≡◌, ℕ, zero, suc, ◌+◌, ◌-◌, ◌*◌, ◌%◌, ◌≤◌, Bool, true, false, cond, List, [], ◌∷◌, ◌++◌, length, Some, None, Ok, Option, sym, refl, ap, ◌∙◌, ap₂, subst, arith, length-append}
+use Rattle.std.proofs.Common.{◌≡◌, ℕ, zero, suc, ◌+◌, ◌-◌, ◌≤◌, Bool, false, List, [], ◌∷◌, ◌++◌, length, Some, Ok, Option, sym, refl, ap, ◌∙◌, ap₂, arith, length-append}
 use Rattle.evaluator.specs.Commands.{written}
 use Rattle.rules.specs.Encoding.{statement_bytes, block_bytes}
-use Rattle.rules.specs.Forms.{has_byte, has_block, has_second_block, par_count, build}
-use Rattle.rules.specs.Numbering.{Mark, Step, Text, number_statement, number_block}
+use Rattle.rules.specs.Forms.{has_block, has_second_block, par_count, build}
+use Rattle.rules.specs.Numbering.{Mark, number_statement, number_block}
 use Rattle.rules.specs.Reading.{Counts, after_statement, block_thread, head_size, place_of_code, read_statement, read_statements, read_block}
 use Rattle.rules.specs.Text.{Expression, Stmt, nothing, assign, pause, branch, loop, par, abort, Block, end, ◌then◌, count, pars, pars_of, arms}
 use Rattle.rules.specs.Variables.{Variable}
 use Rattle.rules.specs.declared.program.Form.{Form}
-use Rattle.rules.specs.declared.program.Form.TheVariants as Form
 use Rattle.table.specs.Filling.{filled, filled_in}
-use Rattle.table.specs.Rows.{mark_of, first_of, task, row}
+use Rattle.table.specs.Rows.{mark_of, first_of, task}
 use Rattle.table.specs.declared.rows.Arm.{Arm}
 use Rattle.table.specs.declared.rows.Code.{Code}
 use Rattle.table.specs.declared.rows.Row.{Row}
 use Rattle.table.specs.declared.rows.Task.{Task}
-use Rattle.table.specs.declared.rows.Task.TheVariants as Task
 use Rattle.loading.proofs.Shapes.{some_bytes}
 use Rattle.heads.proofs.Binding.{bind_inv, same_ok}
 use Rattle.reader.specs.Tasks.{number_if, built_task}

@@ -7,7 +7,6 @@ use Rattle.rules.specs.Reading.{Counts, Head as Headed, after_statement, before_
 use Rattle.rules.specs.Text.{Expression, Stmt, Block, end, count, pars, count_of, pars_of}
 use Rattle.rules.specs.declared.faults.LoadFault.{LoadFault}
 use Rattle.rules.specs.declared.program.Form.{Form}
-use Rattle.rules.specs.declared.program.Form.TheVariants as Form
 use Rattle.rules.specs.Variables.{Variable}
 use Rattle.reader.specs.declared.extents.Extent.{Extent}
 use Rattle.reader.specs.Extents.{built}

@@ -3,7 +3,6 @@ use Rattle.std.specs.Prelude.{ℕ, ◌+◌, ◌-◌, ◌*◌, ◌^◌, min, max,
 use Rattle.rules.specs.Lengths.{length_of, block_length, pauses, must_pause}
 use Rattle.rules.specs.Text.{Stmt, Block}
 use Rattle.rules.specs.declared.program.Form.{Form}
-use Rattle.rules.specs.declared.program.Form.TheVariants as Form
 use Rattle.reader.specs.declared.extents.Extent.{Extent}
 
 -- A number, or the largest of 32 bits.

@@ -1,5 +1,5 @@
 -- What reading notes beside extents and counts: the first pausing loop that may not pause, and the rows of statements.
-use Rattle.std.specs.Prelude.{◌≡◌, ℕ, ◌+◌, ◌<◌, Bool, true, false, cond, not, ◌&&◌, List, length, Ok, Err, Option, Result, ◌==◌, slice_set}
+use Rattle.std.specs.Prelude.{◌≡◌, ℕ, ◌+◌, ◌<◌, Bool, false, cond, not, ◌&&◌, List, length, Ok, Err, Option, Result, ◌==◌, slice_set}
 use Rattle.std.specs.List.{AllByRecursion as All}
 use Rattle.rules.specs.Numbering.{number_statement, number_block}
 use Rattle.rules.specs.Outcomes.{◌>>=◌}
@@ -7,7 +7,6 @@ use Rattle.rules.specs.Reading.{loops_pause, statement_pauses}
 use Rattle.rules.specs.Text.{Stmt, Block, count_of}
 use Rattle.rules.specs.declared.faults.LoadFault.{LoadFault}
 use Rattle.rules.specs.declared.program.Form.{Form}
-use Rattle.rules.specs.declared.program.Form.TheVariants as Form
 use Rattle.table.specs.Filling.{filled, filled_in}
 use Rattle.table.specs.Rows.{row}
 use Rattle.reader.specs.Tasks.{number_if}

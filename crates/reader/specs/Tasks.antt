@@ -1,7 +1,6 @@
 -- What a statement does, by its form and its parts.
 use Rattle.std.specs.Prelude.{ℕ, zero, suc, ◌%◌, Some, None, Option, ◌==◌, nat_le}
 use Rattle.rules.specs.declared.program.Form.{Form}
-use Rattle.rules.specs.declared.program.Form.TheVariants as Form
 use Rattle.table.specs.declared.rows.Arm.{Arm}
 use Rattle.table.specs.declared.rows.Code.{Code}
 use Rattle.table.specs.declared.rows.Task.{Task}

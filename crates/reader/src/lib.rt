@@ -1,4 +1,6 @@
 //! Reads the statements of a program and checks them.
+#![tactic(auto)]
+
 pub mod blocks;
 pub mod extents;
 pub mod guard;

@@ -1,5 +1,5 @@
 -- Calls: from a machine and a call to an answer and a machine. A refused call changes nothing.
-use Rattle.std.specs.Prelude.{ℕ, zero, suc, ◌+◌, Bool, true, false, List, [], ◌∷◌, ◌++◌, length, drop, ℤ, Ok, Err, Result, ◌==◌, nat_le}
+use Rattle.std.specs.Prelude.{ℕ, suc, Bool, true, false, List, [], ◌∷◌, ◌++◌, length, drop, ℤ, Ok, Err, Result, ◌==◌, nat_le}
 use Rattle.arithmetic.specs.Meaning.{Meaning}
 use Rattle.evaluator.specs.Evaluating.{all_places, variable_places}
 use Rattle.rules.specs.Memory.{held_places}
@@ -16,7 +16,6 @@ use Rattle.rules.specs.declared.answers.Answer.{Answer}
 use Rattle.rules.specs.declared.answers.Answer.TheVariants.{Accepted, Opened, Steps, Reported, Refused}
 use Rattle.rules.specs.declared.faults.LoadFault.{LoadFault}
 use Rattle.rules.specs.Variables.{Variable}
-use Rattle.rules.specs.declared.refusals.CallRefusal.{CallRefusal}
 use Rattle.rules.specs.declared.refusals.CallRefusal.TheVariants as Refusal
 
 -- A call with its arguments.

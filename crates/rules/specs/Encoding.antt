@@ -1,17 +1,14 @@
 -- How a program is written in bytes.
-use Rattle.std.specs.Prelude.{ℕ, ◌+◌, ◌/◌, ◌%◌, Bool, true, false, cond, List, [], ◌∷◌, ◌++◌, length}
+use Rattle.std.specs.Prelude.{ℕ, ◌+◌, ◌/◌, ◌%◌, Bool, cond, List, [], ◌∷◌, ◌++◌, length}
 use Rattle.std.specs.Int.{w32}
 use Rattle.std.proofs.Common.{of_z}
 use Rattle.arithmetic.specs.Operators.{combining_number}
 use Rattle.evaluator.specs.Commands.{written, four_bytes}
 use Rattle.rules.specs.Text.{Expression, Stmt, nothing, assign, pause, branch, loop, par, abort, Block, end, ◌then◌, Program}
 use Rattle.rules.specs.declared.program.Kind.{Kind}
-use Rattle.rules.specs.declared.program.Kind.TheVariants as Kind
 use Rattle.rules.specs.declared.program.Policy.{Policy}
-use Rattle.rules.specs.declared.program.Policy.TheVariants as Policy
 use Rattle.rules.specs.Variables.{Variable}
 use Rattle.rules.specs.declared.program.Form.{Form}
-use Rattle.rules.specs.declared.program.Form.TheVariants as Form
 
 -- The number of each kind.
 abbrev pub kind_number : Kind → ℕ

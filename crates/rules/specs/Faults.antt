@@ -1,7 +1,6 @@
 -- The outside numbers of faults, their places, layers, statements and threads.
 use Rattle.std.specs.Prelude.{ℕ, Some, None, Option}
 use Rattle.rules.specs.declared.faults.Layer.{Layer}
-use Rattle.rules.specs.declared.faults.Layer.TheVariants as Layer
 use Rattle.rules.specs.declared.faults.ReadingFault.{ReadingFault}
 use Rattle.rules.specs.declared.faults.ReadingFault.TheVariants.{Cut, Unknown}
 use Rattle.rules.specs.declared.faults.StatementFault.{StatementFault}

@@ -1,8 +1,8 @@
 -- Going on in the text: arriving at a loop, pausing and holding with the innermost weak abort, going out.
 use Rattle.std.specs.Prelude.{ℕ, Bool, true, false, cond, ◌&&◌, Some, None, Option, ◌==◌}
-use Rattle.rules.specs.Numbering.{Mark, Step, Text}
+use Rattle.rules.specs.Numbering.{Step, Text}
 use Rattle.rules.specs.Text.{nothing, assign, pause, branch, loop, par, abort, end, ◌then◌}
-use Rattle.rules.specs.Threads.{After, leave, on, again, out_of, Place, at, at_end, State, ready, out, Memo, Own, Arms, no_arms, both, Thread, thread, is}
+use Rattle.rules.specs.Threads.{After, leave, on, again, out_of, at, at_end, State, ready, out, Memo, Own, Arms, no_arms, both, Thread, thread, is}
 
 -- A function that gives a at n, and elsewhere what it gave before.
 abbrev pub put {ℓ} : {A : Type ℓ} → ℕ → A → (ℕ → A) → ℕ → A

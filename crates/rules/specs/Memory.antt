@@ -1,5 +1,5 @@
 -- The value memory: which place holds what.
-use Rattle.std.specs.Prelude.{ℕ, zero, suc, ◌-◌, ◌/◌, ◌%◌, Bool, true, false, cond, List, [], ◌∷◌, Some, None, Option, ◌==◌, nat_lt, slice_index_or}
+use Rattle.std.specs.Prelude.{ℕ, zero, suc, ◌-◌, ◌/◌, ◌%◌, true, false, cond, List, [], ◌∷◌, Some, None, Option, ◌==◌, nat_lt, slice_index_or}
 use Rattle.arithmetic.specs.Meaning.{Meaning}
 use Rattle.evaluator.specs.Evaluating.{variable_places}
 use Rattle.rules.specs.Scopes.{is_shared, is_private}

@@ -6,7 +6,7 @@ use Rattle.rules.specs.Joining.{for-each}
 use Rattle.rules.specs.Numbering.{Mark, Text}
 use Rattle.rules.specs.Scopes.{is_shared, is_input}
 use Rattle.rules.specs.Text.{Expression, end}
-use Rattle.rules.specs.Threads.{After, leave, on, again, out_of, State, fresh, ready, waiting, held, paused, ended, past, out, Memo, Own, Arms, no_arms, both, Thread, thread, is, Config}
+use Rattle.rules.specs.Threads.{After, leave, on, again, out_of, State, fresh, ready, waiting, held, paused, ended, past, out, Memo, Arms, no_arms, both, Thread, thread, is, Config}
 use Rattle.rules.specs.Values.{declared, zero_value, holds}
 use Rattle.rules.specs.Variables.{Variable}
 

@@ -1,5 +1,5 @@
 -- The promises that the rules are proved to keep. docs/PROMISES.md says which of them stand on a contract.
-use Rattle.std.specs.Prelude.{◌≡◌, ℕ, ◌<◌, ◌≤◌, Bool, true, false, ◌≢◌, ◌⊎◌, ◌↔◌, List, ◌≤ℤ◌, Some, Ok, Err}
+use Rattle.std.specs.Prelude.{◌≡◌, ℕ, ◌<◌, ◌≤◌, true, false, ◌≢◌, ◌⊎◌, ◌↔◌, List, Ok, Err}
 use Rattle.std.specs.List.{AllByRecursion as All}
 use Rattle.arithmetic.specs.Meaning.{Meaning}
 use Rattle.rules.specs.Calls.{Call, step_thread, close, finish, Machine, empty, running, rates_of, perform}

@@ -1,6 +1,6 @@
 -- Reading a program: from any bytes to the program, or to its first fault.
 -- Bytes are read from the front. `end` is the place where they end, so what is left, bs, begins at place `end - length bs`.
-use Rattle.std.specs.Prelude.{ℕ, zero, suc, ◌+◌, ◌-◌, ◌*◌, ◌%◌, Bool, true, false, cond, not, ◌&&◌, ◌||◌, List, [], ◌∷◌, length, take, drop, ℤ, Some, None, Ok, Err, Option, Result, ◌==◌, int_le, nat_le, nat_lt, slice_index}
+use Rattle.std.specs.Prelude.{ℕ, zero, suc, ◌+◌, ◌-◌, ◌*◌, Bool, true, false, cond, not, ◌&&◌, ◌||◌, List, [], ◌∷◌, length, take, drop, ℤ, Ok, Err, Result, ◌==◌, int_le, nat_le, nat_lt, slice_index}
 use Rattle.arithmetic.specs.Operators.{combining_number}
 use Rattle.arithmetic.specs.declared.operators.Combining.{Combining}
 use Rattle.arithmetic.specs.declared.operators.Combining.TheVariants.{Sum, Least, Greatest, Left}
@@ -18,15 +18,11 @@ use Rattle.rules.specs.declared.faults.ReadingFault.{ReadingFault}
 use Rattle.rules.specs.declared.faults.ReadingFault.TheVariants.{Cut, Unknown}
 use Rattle.rules.specs.declared.faults.StatementFault.{StatementFault}
 use Rattle.rules.specs.declared.faults.StatementFault.TheVariants.{Reading, BadExpression, WrongVariable, OverLimit, MayNotPause}
-use Rattle.rules.specs.declared.faults.Site.{Site}
 use Rattle.rules.specs.declared.faults.LoadFault.{LoadFault}
 use Rattle.rules.specs.declared.faults.LoadFault.TheVariants.{BadLength, TooManyVariables, CutDeclaration, BadDeclaration, Statement, TickTooLong}
 use Rattle.rules.specs.declared.program.Form.{Form}
-use Rattle.rules.specs.declared.program.Form.TheVariants as Form
 use Rattle.rules.specs.declared.program.Kind.{Kind}
-use Rattle.rules.specs.declared.program.Kind.TheVariants as Kind
 use Rattle.rules.specs.declared.program.Policy.{Policy}
-use Rattle.rules.specs.declared.program.Policy.TheVariants as Policy
 use Rattle.rules.specs.Variables.{Variable}
 
 -- A program has at most 4,096 bytes.

@@ -1,5 +1,5 @@
 -- Runs: any list of calls from a new machine, and the left-to-right run that is fed the accepted loads and openings.
-use Rattle.std.specs.Prelude.{ℕ, Bool, true, false, List, [], ◌∷◌, ℤ, Ok, Err, Result}
+use Rattle.std.specs.Prelude.{ℕ, Bool, true, false, List, [], ◌∷◌, Ok, Err, Result}
 use Rattle.arithmetic.specs.Meaning.{Meaning}
 use Rattle.rules.specs.Calls.{Call, load, open_tick, step_thread, close, finish, report, Machine, empty, perform}
 use Rattle.rules.specs.Numbering.{text_of}

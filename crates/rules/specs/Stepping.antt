@@ -1,12 +1,12 @@
 -- Steps: the step of each statement, and the step of thread t among all threads.
-use Rattle.std.specs.Prelude.{ℕ, zero, suc, ◌-◌, Bool, true, false, cond, not, ◌&&◌, List, set, Some, None, Option, ◌==◌, nat_lt, slice_index_or, slice_set}
+use Rattle.std.specs.Prelude.{ℕ, zero, suc, ◌-◌, Bool, true, false, cond, not, ◌&&◌, List, Some, None, Option, ◌==◌, nat_lt, slice_index_or, slice_set}
 use Rattle.arithmetic.specs.Meaning.{Meaning}
 use Rattle.rules.specs.Going.{go_on, becomes, with_passes, with_mark}
 use Rattle.rules.specs.Joining.{for-each, with_arms, settle}
-use Rattle.rules.specs.Numbering.{Mark, Step, Text}
+use Rattle.rules.specs.Numbering.{Text}
 use Rattle.rules.specs.Scopes.{is_shared}
 use Rattle.rules.specs.Text.{nothing, assign, pause, branch, loop, par, abort}
-use Rattle.rules.specs.Threads.{After, leave, on, again, out_of, Place, at, at_end, State, fresh, ready, waiting, held, paused, ended, past, out, Memo, Own, Arms, no_arms, both, Thread, thread, is, is_ready, waits}
+use Rattle.rules.specs.Threads.{leave, on, again, out_of, Place, at, at_end, State, fresh, ready, waiting, held, paused, ended, past, out, Memo, Own, Arms, no_arms, both, Thread, thread, is, is_ready, waits}
 use Rattle.rules.specs.Values.{declared, zero_value, value, holds}
 use Rattle.rules.specs.Variables.{Variable}
 

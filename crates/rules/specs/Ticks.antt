@@ -1,14 +1,14 @@
 -- A whole tick: the left-to-right run, closing, and what a load leaves.
-use Rattle.std.specs.Prelude.{ℕ, zero, suc, ◌+◌, Bool, true, false, cond, List, ℤ, Some, None, Option, ◌==◌, slice_index_or}
+use Rattle.std.specs.Prelude.{ℕ, zero, suc, ◌+◌, true, false, cond, List, ℤ, Some, None, ◌==◌, slice_index_or}
 use Rattle.arithmetic.specs.Meaning.{Meaning}
 use Rattle.rules.specs.Joining.{for-each}
 use Rattle.rules.specs.Lengths.{block_length}
-use Rattle.rules.specs.Numbering.{Mark, Step, Text, first_arm, second_arm}
+use Rattle.rules.specs.Numbering.{Step, Text, first_arm, second_arm}
 use Rattle.rules.specs.Opening.{opening}
 use Rattle.rules.specs.Scopes.{is_shared, is_private}
 use Rattle.rules.specs.Stepping.{lowest, step}
 use Rattle.rules.specs.Text.{nothing, assign, pause, branch, loop, par, abort, end, ◌then◌}
-use Rattle.rules.specs.Threads.{State, fresh, out, Memo, Own, Arms, no_arms, both, Thread, is, Config, closable}
+use Rattle.rules.specs.Threads.{fresh, out, Memo, Arms, no_arms, both, Thread, is, Config, closable}
 use Rattle.rules.specs.Values.{declared, zero_value}
 use Rattle.rules.specs.Variables.{Variable}
 

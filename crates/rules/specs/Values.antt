@@ -1,5 +1,5 @@
 -- Values in a thread: variables, expressions, conditions.
-use Rattle.std.specs.Prelude.{ℕ, Bool, true, false, cond, not, List, [], ◌∷◌, map, ℤ, pos, Some, None, Ok, Err, Option, Result, slice_index_or}
+use Rattle.std.specs.Prelude.{ℕ, Bool, cond, not, List, [], map, pos, Some, Ok, Err, Result, slice_index_or}
 use Rattle.arithmetic.specs.Meaning.{Meaning}
 use Rattle.arithmetic.specs.Plain.{same}
 use Rattle.arithmetic.specs.declared.operators.Combining.TheVariants.{Sum}

@@ -1,5 +1,5 @@
 -- Worked numbers: small programs, with the steps and the rate of each tick.
-use Rattle.std.specs.Prelude.{◌≡◌, ℕ, zero, suc, Bool, true, false, List, [], ◌∷◌, get_or, ℤ, pos, negsuc, Ok, Err}
+use Rattle.std.specs.Prelude.{◌≡◌, ℕ, zero, suc, Bool, true, false, List, [], ◌∷◌, ℤ, pos, negsuc, Ok, Err}
 use Rattle.arithmetic.specs.Plain.{plain}
 use Rattle.arithmetic.specs.declared.operators.Combining.{Combining}
 use Rattle.arithmetic.specs.declared.operators.Combining.TheVariants.{Sum, Least, Left}
@@ -11,7 +11,7 @@ use Rattle.rules.specs.Numbering.{text_of}
 use Rattle.rules.specs.Opening.{opening}
 use Rattle.rules.specs.Reading.{read}
 use Rattle.rules.specs.Stepping.{ready?, step}
-use Rattle.rules.specs.Text.{Expression, Stmt, nothing, assign, pause, branch, loop, par, abort, Block, end, ◌then◌, Program}
+use Rattle.rules.specs.Text.{Expression, Stmt, nothing, assign, pause, loop, par, abort, Block, end, ◌then◌, Program}
 use Rattle.rules.specs.Threads.{Thread, Config, is_ended}
 use Rattle.rules.specs.Ticks.{closing, tick, loaded}
 use Rattle.rules.specs.Memory.{store_at}

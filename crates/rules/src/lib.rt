@@ -1,4 +1,6 @@
 //! The language of programs and the rules of its execution: definitions, and the types that the code shares with them.
+#![tactic(auto)]
+
 pub mod answers;
 pub mod faults;
 pub mod program;

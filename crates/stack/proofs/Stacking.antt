@@ -1,7 +1,7 @@
 -- The list of stacked values: values at the places from b on, d of them, the last first.
 use Rattle.std.proofs.Common.{◌≡◌, ℕ, zero, suc, ◌+◌, ◌-◌, ◌<◌, ◌≤◌, min, List, [], ◌∷◌, ◌++◌, reverse, length, get_or, take, drop, set, sym, refl, ap, ◌∙◌, arith}
 use native.Mathlib.Decide.{dec_le}
-use Rattle.std.proofs.lemmas.List.{length-reverse, length-take-le, length-drop, length-set, reverse-append, take_more, take_more_set, take-set-le, drop-set-add, get_or-drop, take_all}
+use Rattle.std.proofs.lemmas.List.{length-reverse, length-take-le, length-drop, reverse-append, take_more, take_more_set, drop-set-add, get_or-drop, take_all}
 
 module _ {T : Type 0} (ps : List T) (b : ℕ) where
   pub depth_is : (d : ℕ) → b + d ≤ length ps → length (reverse (take d (drop b ps))) ≡ d

@@ -1,4 +1,6 @@
 //! A stack over places that are lent to it.
+#![tactic(auto)]
+
 ghost use Rattle.std.specs.Prelude.{◌+◌, ◌≤◌, length};
 
 pub mod methods;

@@ -1,5 +1,5 @@
 -- A table that is filled while a program is read: the row of a statement is set after the rows of its blocks, since only then is known where they begin.
-use Rattle.std.specs.Prelude.{ℕ, List, set, Some, None, Option, slice_set}
+use Rattle.std.specs.Prelude.{ℕ, List, Some, None, Option, slice_set}
 use Rattle.rules.specs.Numbering.{Step, Text}
 use Rattle.rules.specs.Text.{nothing, assign, pause, branch, loop, par, abort, end, ◌then◌}
 use Rattle.table.specs.Rows.{mark_of, first_of, row}

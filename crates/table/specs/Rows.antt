@@ -4,7 +4,6 @@ use Rattle.evaluator.specs.Commands.{written}
 use Rattle.rules.specs.Numbering.{Mark, Step, Text, first_arm, second_arm, text_of}
 use Rattle.rules.specs.Text.{Expression, nothing, assign, pause, branch, loop, par, abort, end, ◌then◌, Program}
 use Rattle.table.specs.declared.rows.Code.{Code}
-use Rattle.table.specs.declared.rows.Arm.{Arm}
 use Rattle.table.specs.declared.rows.Task.{Task}
 use Rattle.table.specs.declared.rows.Task.TheVariants.{Nothing, Set, Pause, If, Loop, Par, Abort}
 use Rattle.table.specs.declared.rows.Row.{Row}

@@ -1,2 +1,4 @@
 //! The table of a program's statements: a row for each, by its number.
+#![tactic(auto)]
+
 pub mod rows;

@@ -1,10 +1,10 @@
 -- What `parse` reads is what a decimal word stands for.
-use Rattle.std.proofs.Common.{◌≡◌, ℕ, ◌^◌, ◌<◌, ◌≤◌, Bool, true, false, cond, ◌&&◌, eqb, ltb, leb, List, length, get_or, drop, ℤ, pos, neg_ℤ, Some, None, Ok, Err, Decides, Result, sym, refl, ap, ◌∙◌, subst, ⊎_elim, w32}
+use Rattle.std.proofs.Common.{◌≡◌, ℕ, ◌^◌, ◌<◌, ◌≤◌, Bool, true, false, cond, ◌&&◌, eqb, ltb, leb, List, length, get_or, drop, ℤ, pos, Some, None, Ok, Err, Decides, Result, sym, refl, ap, ◌∙◌, subst, ⊎_elim, w32}
 use Rattle.std.proofs.lemmas.Str.Parse.{IsNumeralModel, numerals_by_value, tells_all_ascii_digits, without_leading_plus_none, without_leading_plus_plus, parse_signed_minus, parse_signed_plain, parse_signed_plus}
 use Rattle.std.proofs.lemmas.Bool.{cond-true, cond-false, eqb-true, eqb-false, leb-true, le-leb, false≢true, cases_Bool}
 use Rattle.std.proofs.lemmas.Bool.Decides.{Decides-and, Decides-ltb}
 use Rattle.std.specs.Result.{OkIff, result_ok}
-use Rattle.std.specs.Str.Parse.{digits_value, starts_with_minus, without_leading_plus, ParsesSigned}
+use Rattle.std.specs.Str.Parse.{digits_value, starts_with_minus, ParsesSigned}
 use Rattle.std.specs.Str.{all_ascii_digits}
 use Rattle.words.specs.Decimal.{numeral, decimal_in}
 

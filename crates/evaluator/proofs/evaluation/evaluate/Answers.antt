@@ -1,8 +1,6 @@
-use Rattle.std.proofs.Common.{◌≡◌, ◌<◌, ◌≤◌, List, length, Ok, Err, sym, ap, ◌∙◌, arith, rules}
+use Rattle.std.proofs.Common.{◌≡◌, ◌<◌, ◌≤◌, List, length, Ok, Err, sym, ap, ◌∙◌, arith}
 use Rattle.std.proofs.lemmas.Result.{err_from_is_err_and}
 use Rattle.std.proofs.lemmas.Bool.{eqb-false}
-use Rattle.evaluator.specs.Evaluating.{only}
-use Rattle.evaluator.specs.Outcomes.{and_then}
 use Rattle.stack.specs.Stacks.{stacked, before_base}
 use Rattle.evaluator.proofs.Whole.{variables_kept, answer_is}
 use Rattle.evaluator.proofs.evaluation.evaluate.Goals as goal

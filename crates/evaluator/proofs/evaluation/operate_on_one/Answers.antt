@@ -1,4 +1,4 @@
-use Rattle.std.proofs.Common.{◌≡◌, ◌≤◌, length, sym, ◌∙◌, arith}
+use Rattle.std.proofs.Common.{◌≤◌, length, ◌∙◌, arith}
 use Rattle.arithmetic.specs.Meaning.{inverse}
 use Rattle.stack.specs.Stacks.{stacked}
 use Rattle.evaluator.proofs.Performing.{within_room, one_operated}

@@ -1,8 +1,8 @@
-use Rattle.std.proofs.Common.{◌≡◌, ℕ, ◌<◌, ◌≤◌, length, get_or, sym, refl, ap, ◌∙◌, arith, w32, SFits, to_z, of_z, rules}
+use Rattle.std.proofs.Common.{◌≡◌, ℕ, ◌≤◌, length, get_or, sym, ap, ◌∙◌, arith, w32, SFits, to_z, of_z, rules}
 use Rattle.std.proofs.lemmas.Result.{err_from_is_err_and, IfOk-from_err}
 use Rattle.std.proofs.lemmas.Int.{to_z-of_z}
 use Rattle.std.proofs.lemmas.Bool.{eqb-false}
-use Rattle.evaluator.specs.Commands.{Command, constant, variable, operator, inversion, signed_of, next_command}
+use Rattle.evaluator.specs.Commands.{operator, inversion, signed_of, next_command}
 use Rattle.evaluator.specs.Evaluating.{value_at, stack_one}
 use Rattle.stack.specs.Stacks.{stacked, before_base}
 use Rattle.evaluator.proofs.Taking.{from, constant_first, variable_first, inversion_first, operator_first, operators_cover, taken_ok, taken_break, shorter_one, shorter_more, operator_positive}

@@ -5,7 +5,7 @@ use Rattle.rules.specs.Reading.{read_head}
 use Rattle.declarations.specs.Declaring.{variables_of}
 use Rattle.heads.specs.Counting.{counted}
 use Rattle.heads.specs.Pieces.{pieces}
-use Rattle.heads.specs.Readers.{left_of, statement_place}
+use Rattle.heads.specs.Readers.{left_of}
 use Rattle.heads.specs.Seen.{seen_head}
 use Rattle.heads.proofs.Exits.{good}
 use Rattle.heads.proofs.Sizes.{fine_head}

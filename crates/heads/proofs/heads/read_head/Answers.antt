@@ -1,5 +1,5 @@
 -- The head, or its fault with the site added.
-use Rattle.std.proofs.Common.{Ok, Err, sym, refl, ap, ◌∙◌, rules}
+use Rattle.std.proofs.Common.{Ok, Err}
 use Rattle.declarations.specs.Declaring.{variables_of}
 use Rattle.heads.specs.Counting.{counted}
 use Rattle.heads.specs.Readers.{left_of, statement_place}

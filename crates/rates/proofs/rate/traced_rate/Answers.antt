@@ -1,4 +1,4 @@
-use Rattle.std.proofs.Common.{◌≡◌, sym, ap, ◌∙◌}
+use Rattle.std.proofs.Common.{sym, ap, ◌∙◌}
 use Rattle.evaluator.specs.Outcomes.{mapped}
 use Rattle.rates.specs.Rates.{shown_number}
 use Rattle.rates.proofs.Tracing.{tracing_keeps_the_rate, absent_probes_did_not_enter}

@@ -13,7 +13,7 @@ use Rattle.heads.proofs.Taken.{in_turn}
 use Rattle.reader.specs.Told.{with_counts, with_counts_and_left, sum_block, sum_statement}
 use Rattle.reader.specs.Tasks.{number_if, built_task}
 use Rattle.reader.specs.Noting.{judged}
-use Rattle.reader.proofs.Lefts.{left_long, left_within, place_by_left, left_shorter, at_end, through_end, Passed, passed, onward_past, first_end, second_end, second_few, parts_end, taken_long, past_command}
+use Rattle.reader.proofs.Lefts.{left_long, left_within, place_by_left, left_shorter, through_end, Passed, passed, onward_past, first_end, second_end, second_few, parts_end, taken_long, past_command}
 use Rattle.reader.proofs.Notes.{at_noted, statement_known, row_known, own_fault}
 use Rattle.reader.proofs.Rounds.{noted_first, noted_more_at, noted_last, noted_entered, noted_shut}
 use Rattle.reader.proofs.Turns.{begun, one_more_at, stopped_at, ended, entered, joined_fits}

@@ -1,5 +1,5 @@
 -- Main's block that was read, and the fault that reading it found.
-use Rattle.std.proofs.Common.{Err, refl, ap, ◌∙◌, rules}
+use Rattle.std.proofs.Common.{Err, ap, ◌∙◌, rules}
 use Rattle.std.proofs.lemmas.Result.{err_from_is_err_and}
 use Rattle.declarations.specs.Declaring.{variables_of}
 use Rattle.reader.proofs.Mains.{bytes_of, main_read, main_stopped}

@@ -1,4 +1,4 @@
-use Rattle.std.proofs.Common.{◌≡◌, ◌+◌, ◌≤◌, length, sym, refl, ap, arith}
+use Rattle.std.proofs.Common.{sym, refl, ap}
 use Rattle.stack.specs.Stacks.{popped_value, popped_rest}
 use Rattle.stack.proofs.Stacking.{last_first}
 use Rattle.stack.proofs.Stack.pop.Goals as goal

@@ -1,8 +1,7 @@
 use Rattle.std.proofs.Common.{ℕ, List, ◌++◌, Some, codes, decimal, Option, sym, ap, ◌∙◌, subst}
 use Rattle.std.specs.Fmt.{DisplaysOnOk}
-use Rattle.bounds.specs.Refusals.{refusal_number, refusal_place}
+use Rattle.bounds.specs.Refusals.{refusal_number}
 use Rattle.console.specs.Texts.{answer_text}
-use Rattle.console.specs.declared.answer.Answer.TheVariants.{Refused, Summary}
 use Rattle.console.proofs.answer.AnswerDisplay.fmt.Goals as goal
 
 -- A refusal with this number and this place.

@@ -1,5 +1,5 @@
 -- The length byte, and as many bytes after it.
-use Rattle.std.proofs.Common.{refl, arith, rules}
+use Rattle.std.proofs.Common.{arith, rules}
 use Rattle.heads.proofs.Lefts.{rest_short, code_taken, onward}
 use Rattle.heads.proofs.reader.Reader.code.Goals as goal
 

@@ -1,5 +1,5 @@
 -- The next bytes, or all that are left.
-use Rattle.std.proofs.Common.{refl, arith, rules}
+use Rattle.std.proofs.Common.{refl, arith}
 use Rattle.heads.proofs.Lefts.{sooner, no_sooner}
 use Rattle.heads.proofs.reader.Reader.enter.Goals as goal
 

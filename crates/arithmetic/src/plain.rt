@@ -1,7 +1,7 @@
 //! The plain arithmetic: signed 32-bit numbers.
+ghost use Rattle.std.specs.Prelude.{refl};
 ghost use Rattle.arithmetic.specs.Plain.{plain};
 ghost use Rattle.arithmetic.specs.Nearest.{clamped_nearest};
-ghost use Rattle.std.proofs.Common.{rules};
 
 use crate::Arithmetic;
 use crate::operators::{Combining, Operator};
@@ -15,9 +15,9 @@ impl Arithmetic for Plain {
 
     ghost meaning = { λ _. plain };
 
-    ghost constants = { Prim.search rules };
+    ghost constants = { λ a n h. refl };
 
-    ghost readings = { Prim.search rules };
+    ghost readings = { λ a i n h. refl };
 
     ghost limits = { λ a low high x h. clamped_nearest low high x h };
 

@@ -1,7 +1,7 @@
 //! The tracing arithmetic: the plain number, and which probes it depends on.
-ghost use Rattle.std.specs.Prelude.{◌≡◌};
+ghost use Rattle.std.specs.Prelude.{◌≡◌, refl};
 ghost use Rattle.arithmetic.specs.Tracing.{tracing, traced, probe_bit};
-ghost use Rattle.std.proofs.Common.{rules};
+ghost use Rattle.arithmetic.specs.Nearest.{clamped_nearest};
 
 use crate::Arithmetic;
 use crate::operators::{Combining, Operator};
@@ -31,11 +31,11 @@ impl Arithmetic for Tracing {
 
     ghost meaning = { λ _. tracing };
 
-    ghost constants = { Prim.search rules };
+    ghost constants = { λ a n h. refl };
 
-    ghost readings = { Prim.search rules };
+    ghost readings = { λ a i n h. refl };
 
-    ghost limits = { Prim.search rules };
+    ghost limits = { λ a low high x h. clamped_nearest low high x.number h };
 
     fn constant(&self, number: i32) -> Traced {
         with_mask(number, 0)

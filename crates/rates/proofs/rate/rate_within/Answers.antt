@@ -1,4 +1,4 @@
-use Rattle.std.proofs.Common.{◌≡◌, length, Ok, Err, sym, ap, ◌∙◌, subst, arith, w32, SFits, to_z, of_z, rules}
+use Rattle.std.proofs.Common.{◌≡◌, ◌≤◌, length, Ok, Err, sym, ap, ◌∙◌, subst, arith, w32, SFits, to_z, of_z, rules}
 use Rattle.std.proofs.lemmas.Int.{to_z-of_z}
 use Rattle.std.proofs.lemmas.Result.{err_from_is_err_and, IfOk-from_err}
 use Rattle.evaluator.specs.Outcomes.{mapped}
@@ -12,11 +12,12 @@ returns-in_err-value g c =
     let rs = c.args.readings.now in
     let m = c.place_readings.new.memory in
     let long : length m ≡ 1040 = omega arith in
+    let few : length rs ≤ 32 = omega arith in
     let p = err_from_is_err_and c.from_residual.result c.from_residual.ensures.1 in
     let e = c.in_err-value.ensures in
     record {
       answer = p.1 ∙ ap Err p.2 ∙ ap (mapped (M.limited c.args.limits.low c.args.limits.high)) e.answer
-          ∙ rate_is M rs m c.args.code.now c.args.limits.low c.args.limits.high long c.if-readings-gt-MOST_VARIABLES.false c.place_readings.ensures;
+          ∙ rate_is M rs m c.args.code.now c.args.limits.low c.args.limits.high long few c.place_readings.ensures;
       within = IfOk-from_err _ _ c.from_residual.ensures.0;
     }
 
@@ -26,6 +27,7 @@ returns g c =
     let rs = c.args.readings.now in
     let m = c.place_readings.new.memory in
     let long : length m ≡ 1040 = omega arith in
+    let few : length rs ≤ 32 = omega arith in
     let e = c.in_ok-value.ensures in
     let low = c.args.limits.low in
     let high = c.args.limits.high in
@@ -40,6 +42,6 @@ returns g c =
     let law = g.met.A.Arithmetic.limits c.args.arithmetic.now low high x c.args.limits.ordered in
     record {
       answer = ap Ok value ∙ ap (mapped (M.limited low high)) e.answer
-          ∙ rate_is M rs m c.args.code.now low high long c.if-readings-gt-MOST_VARIABLES.false c.place_readings.ensures;
+          ∙ rate_is M rs m c.args.code.now low high long few c.place_readings.ensures;
       within = subst (Within M low high) (sym value) (law.above, law.below);
     }

@@ -8,7 +8,7 @@ pub fn loading_accepts_the_valid()
     ensures { LoadingAcceptsTheValid }
 {}
 
-/// The fault that loading names is the first: with the length the same, bytes after the 261 from its place on never change it.
+/// A fault that is met while bytes are read in order is the one that loading names: with the length the same, bytes after the 261 from its place on never change it.
 pub fn the_first_fault_is_named()
     ensures { TheFirstFaultIsNamed }
 {}

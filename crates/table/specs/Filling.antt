@@ -1,8 +1,8 @@
 -- A table that is filled while a program is read: the row of a statement is set after the rows of its blocks, since only then is known where they begin.
-use Rattle.std.specs.Prelude.{ℕ, List, Some, None, Option, slice_set}
-use Rattle.rules.specs.Numbering.{Step, Text}
-use Rattle.rules.specs.Text.{nothing, assign, pause, branch, loop, par, abort, end, ◌then◌}
-use Rattle.table.specs.Rows.{mark_of, first_of, row}
+use Rattle.std.specs.Prelude.{◌≡◌, ℕ, ◌≤◌, List, length, take, Some, None, Option, slice_set}
+use Rattle.rules.specs.Numbering.{Step, Text, text_of}
+use Rattle.rules.specs.Text.{nothing, assign, pause, branch, loop, par, abort, end, ◌then◌, Program, count}
+use Rattle.table.specs.Rows.{mark_of, first_of, row, table_of}
 use Rattle.table.specs.declared.rows.Task.TheVariants.{Nothing}
 use Rattle.table.specs.declared.rows.Row.{Row}
 
@@ -25,3 +25,7 @@ abbrev mutual
   pub filled : (inside : Option ℕ) → Text → List Row → List Row
   filled o end T = T
   filled o (s then B) T = filled o B (slice_set (filled_in s T) (mark_of s).number (row o s (first_of B)))
+
+-- Whatever stood in a table that is long enough, once it is filled its first rows are those of the program's statements in reading order.
+abbrev pub FillingGivesTheTable : Type 0
+FillingGivesTheTable = (p : Program) (T : List Row) → count p.main ≤ length T → take (count p.main) (filled None (text_of p) T) ≡ table_of p

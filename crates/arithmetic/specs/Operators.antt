@@ -1,9 +1,10 @@
 -- The numbers by which programs name the operators.
-use Rattle.std.specs.Prelude.{ℕ, ◌≢◌}
+use Rattle.std.specs.Prelude.{◌≡◌, ℕ, ◌≢◌, Result, MatchResult}
 use Rattle.arithmetic.specs.declared.operators.Operator.{Operator}
 use Rattle.arithmetic.specs.declared.operators.Operator.TheVariants.{Add, Subtract, Multiply, Lesser, Greater, LessThan, Equal}
 use Rattle.arithmetic.specs.declared.operators.Combining.{Combining}
 use Rattle.arithmetic.specs.declared.operators.Combining.TheVariants.{Sum, Least, Greatest, Left}
+use Rattle.arithmetic.specs.declared.operators.UnknownNumber.{UnknownNumber}
 
 -- The command byte of each operator on two values.
 abbrev pub operator_byte : Operator → ℕ
@@ -33,3 +34,11 @@ NoOperator b = (o : Operator) → operator_byte o ≢ b
 -- The number is no combining operator's.
 abbrev pub NoCombining : ℕ → Type 0
 NoCombining n = (o : Combining) → combining_number o ≢ n
+
+-- The operator whose byte it is, or the byte that is no operator's.
+abbrev pub OperatorOf : ℕ → Result Operator UnknownNumber → Type 0
+OperatorOf b r = MatchResult r (λ o. operator_byte o ≡ b) (λ u. (u.0 ≡ b) × NoOperator b)
+
+-- The combining operator whose number it is, or the number that is no such operator's.
+abbrev pub CombiningOf : ℕ → Result Combining UnknownNumber → Type 0
+CombiningOf n r = MatchResult r (λ o. combining_number o ≡ n) (λ u. (u.0 ≡ n) × NoCombining n)

@@ -1,84 +1,79 @@
 //! The operators of expressions, those that combine two copies, and the numbers that programs give them.
-ghost use Rattle.std.specs.Prelude.{◌≡◌, MatchOption};
-ghost use Rattle.arithmetic.specs.Operators.{operator_byte, combining_number, NoOperator, NoCombining};
+ghost use Rattle.std.specs.Prelude.{◌≡◌};
+ghost use Rattle.arithmetic.specs.Operators.{operator_byte, combining_number, OperatorOf, CombiningOf};
 
-/// An operator of an expression that takes two values.
+/// A number that stands for none of the cases that it was to name.
+#[derive(Clone, Copy, PartialEq, Eq, Debug)]
+pub struct UnknownNumber(pub u8);
+
+/// An operator of an expression that takes two values, by its command byte.
 #[derive(Clone, Copy, PartialEq, Eq, Debug)]
 pub enum Operator {
-    Add,
-    Subtract,
-    Multiply,
-    Lesser,
-    Greater,
-    LessThan,
-    Equal,
+    Add = 0x42,
+    Subtract = 0x43,
+    Multiply = 0x44,
+    Lesser = 0x45,
+    Greater = 0x46,
+    LessThan = 0x47,
+    Equal = 0x48,
 }
 
-/// An operator that combines two copies of a shared variable.
+/// An operator that combines two copies of a shared variable, by its number in a declaration.
 #[derive(Clone, Copy, PartialEq, Eq, Debug)]
 pub enum Combining {
-    Sum,
-    Least,
-    Greatest,
-    Left,
+    Sum = 0,
+    Least = 1,
+    Greatest = 2,
+    Left = 3,
 }
 
-impl Operator {
-    /// The operator of a command byte, if it has one.
-    pub fn from_byte(byte: u8) -> Option<Operator>
-        ensures { MatchOption result (NoOperator byte) (λ o. operator_byte o ≡ byte) }
-    {
+impl From<Operator> for u8 {
+    ghost from_gives = { λ operator byte. byte ≡ operator_byte operator };
+
+    fn from(operator: Operator) -> u8 {
+        operator as u8
+    }
+}
+
+impl TryFrom<u8> for Operator {
+    type Error = UnknownNumber;
+
+    ghost try_from_gives = { OperatorOf };
+
+    fn try_from(byte: u8) -> Result<Operator, UnknownNumber> {
         match byte {
-            0x42 => Some(Operator::Add),
-            0x43 => Some(Operator::Subtract),
-            0x44 => Some(Operator::Multiply),
-            0x45 => Some(Operator::Lesser),
-            0x46 => Some(Operator::Greater),
-            0x47 => Some(Operator::LessThan),
-            0x48 => Some(Operator::Equal),
-            _ => None,
-        }
-    }
-
-    /// The command byte of an operator.
-    pub fn byte(self) -> u8
-        ensures { result ≡ operator_byte self }
-    {
-        match self {
-            Operator::Add => 0x42,
-            Operator::Subtract => 0x43,
-            Operator::Multiply => 0x44,
-            Operator::Lesser => 0x45,
-            Operator::Greater => 0x46,
-            Operator::LessThan => 0x47,
-            Operator::Equal => 0x48,
+            0x42 => Ok(Operator::Add),
+            0x43 => Ok(Operator::Subtract),
+            0x44 => Ok(Operator::Multiply),
+            0x45 => Ok(Operator::Lesser),
+            0x46 => Ok(Operator::Greater),
+            0x47 => Ok(Operator::LessThan),
+            0x48 => Ok(Operator::Equal),
+            _ => Err(UnknownNumber(byte)),
         }
     }
 }
 
-impl Combining {
-    /// The operator that a declaration's number stands for, if there is one.
-    pub fn from_number(number: u8) -> Option<Combining>
-        ensures { MatchOption result (NoCombining number) (λ o. combining_number o ≡ number) }
-    {
-        match number {
-            0 => Some(Combining::Sum),
-            1 => Some(Combining::Least),
-            2 => Some(Combining::Greatest),
-            3 => Some(Combining::Left),
-            _ => None,
-        }
-    }
+impl From<Combining> for u8 {
+    ghost from_gives = { λ operator number. number ≡ combining_number operator };
 
-    /// The number of the operator in a declaration.
-    pub fn number(self) -> u8
-        ensures { result ≡ combining_number self }
-    {
-        match self {
-            Combining::Sum => 0,
-            Combining::Least => 1,
-            Combining::Greatest => 2,
-            Combining::Left => 3,
+    fn from(operator: Combining) -> u8 {
+        operator as u8
+    }
+}
+
+impl TryFrom<u8> for Combining {
+    type Error = UnknownNumber;
+
+    ghost try_from_gives = { CombiningOf };
+
+    fn try_from(number: u8) -> Result<Combining, UnknownNumber> {
+        match number {
+            0 => Ok(Combining::Sum),
+            1 => Ok(Combining::Least),
+            2 => Ok(Combining::Greatest),
+            3 => Ok(Combining::Left),
+            _ => Err(UnknownNumber(number)),
         }
     }
 }

@@ -1,6 +1,6 @@
 //! The plain arithmetic: signed 32-bit numbers.
-ghost use Rattle.std.specs.Prelude.{◌≡◌, refl};
-ghost use Rattle.arithmetic.specs.Plain.{plain, plain_two, plain_not, plain_combined};
+ghost use Rattle.std.specs.Prelude.{refl};
+ghost use Rattle.arithmetic.specs.Plain.{plain};
 ghost use Rattle.arithmetic.specs.Nearest.{clamped_nearest};
 
 use crate::Arithmetic;
@@ -9,47 +9,6 @@ use crate::operators::{Combining, Operator};
 /// Values are numbers; what would leave the range stops at its end.
 #[derive(Clone, Copy)]
 pub struct Plain {}
-
-/// An operator on two numbers.
-pub fn binary_number(operator: Operator, first: i32, second: i32) -> i32
-    ensures { result ≡ plain_two operator first second }
-{
-    match operator {
-        Operator::Add => first.saturating_add(second),
-        Operator::Subtract => first.saturating_sub(second),
-        Operator::Multiply => first.saturating_mul(second),
-        Operator::Lesser => first.min(second),
-        Operator::Greater => first.max(second),
-        Operator::LessThan => i32::from(first < second),
-        Operator::Equal => i32::from(first == second),
-    }
-}
-
-/// 1 for 0, and 0 for any other number.
-pub fn inverted_number(number: i32) -> i32
-    ensures { result ≡ plain_not number }
-{
-    i32::from(number == 0)
-}
-
-/// The number from low to high that is nearest.
-pub fn limited_number(low: i32, high: i32, number: i32) -> i32
-    ensures { result ≡ plain.limited low high number }
-{
-    low.max(number.min(high))
-}
-
-/// Two numbers combined.
-pub fn combined_number(operator: Combining, first: i32, second: i32) -> i32
-    ensures { result ≡ plain_combined operator first second }
-{
-    match operator {
-        Combining::Sum => first.saturating_add(second),
-        Combining::Least => first.min(second),
-        Combining::Greatest => first.max(second),
-        Combining::Left => first,
-    }
-}
 
 impl Arithmetic for Plain {
     type Value = i32;
@@ -71,11 +30,19 @@ impl Arithmetic for Plain {
     }
 
     fn binary(&self, operator: Operator, first: i32, second: i32) -> i32 {
-        binary_number(operator, first, second)
+        match operator {
+            Operator::Add => first.saturating_add(second),
+            Operator::Subtract => first.saturating_sub(second),
+            Operator::Multiply => first.saturating_mul(second),
+            Operator::Lesser => first.min(second),
+            Operator::Greater => first.max(second),
+            Operator::LessThan => i32::from(first < second),
+            Operator::Equal => i32::from(first == second),
+        }
     }
 
     fn inverted(&self, value: i32) -> i32 {
-        inverted_number(value)
+        i32::from(value == 0)
     }
 
     fn shows(&self, value: i32) -> i32 {
@@ -83,10 +50,15 @@ impl Arithmetic for Plain {
     }
 
     fn limited(&self, low: i32, high: i32, value: i32) -> i32 {
-        limited_number(low, high, value)
+        low.max(value.min(high))
     }
 
     fn combined(&self, operator: Combining, first: i32, second: i32) -> i32 {
-        combined_number(operator, first, second)
+        match operator {
+            Combining::Sum => first.saturating_add(second),
+            Combining::Least => first.min(second),
+            Combining::Greatest => first.max(second),
+            Combining::Left => first,
+        }
     }
 }

@@ -170,13 +170,13 @@ fn readings_and_constants(rt: HostRuntime) {
 #[test]
 fn numbers_of_operators(rt: HostRuntime) {
     for byte in 0..=255u8 {
-        match Operator::from_byte(byte) {
-            Some(operator) => assert!(rt; operator.byte() == byte && byte >= 0x42 && byte <= 0x48),
-            None => assert!(rt; byte < 0x42 || byte > 0x48),
+        match Operator::try_from(byte) {
+            Ok(operator) => assert!(rt; u8::from(operator) == byte && byte >= 0x42 && byte <= 0x48),
+            Err(unknown) => assert!(rt; unknown.0 == byte && (byte < 0x42 || byte > 0x48)),
         }
-        match Combining::from_number(byte) {
-            Some(operator) => assert!(rt; operator.number() == byte && byte < 4),
-            None => assert!(rt; byte >= 4),
+        match Combining::try_from(byte) {
+            Ok(operator) => assert!(rt; u8::from(operator) == byte && byte < 4),
+            Err(unknown) => assert!(rt; unknown.0 == byte && byte >= 4),
         }
     }
 }

@@ -5,7 +5,7 @@ ghost use Rattle.arithmetic.specs.Nearest.{clamped_nearest};
 
 use crate::Arithmetic;
 use crate::operators::{Combining, Operator};
-use crate::plain::{binary_number, combined_number, inverted_number, limited_number};
+use crate::plain::Plain;
 use crate::traced::Traced;
 
 /// Values are plain numbers, each with the mask of the probes that it depends on.
@@ -46,12 +46,12 @@ impl Arithmetic for Tracing {
     }
 
     fn binary(&self, operator: Operator, first: Traced, second: Traced) -> Traced {
-        let number = binary_number(operator, first.number, second.number);
+        let number = Plain {}.binary(operator, first.number, second.number);
         with_mask(number, first.mask | second.mask)
     }
 
     fn inverted(&self, value: Traced) -> Traced {
-        with_mask(inverted_number(value.number), value.mask)
+        with_mask(Plain {}.inverted(value.number), value.mask)
     }
 
     fn shows(&self, value: Traced) -> i32 {
@@ -59,12 +59,12 @@ impl Arithmetic for Tracing {
     }
 
     fn limited(&self, low: i32, high: i32, value: Traced) -> Traced {
-        let number = limited_number(low, high, value.number);
+        let number = Plain {}.limited(low, high, value.number);
         with_mask(number, value.mask)
     }
 
     fn combined(&self, operator: Combining, first: Traced, second: Traced) -> Traced {
-        let number = combined_number(operator, first.number, second.number);
+        let number = Plain {}.combined(operator, first.number, second.number);
         let mask = match operator {
             Combining::Left => first.mask,
             _ => first.mask | second.mask,

@@ -135,7 +135,7 @@ fn perform<'a, A: Arithmetic, S: Scope>(
             Ok(&rest[1..])
         }
         0x42..=0x48 if depth >= 2 => {
-            let Some(operator) = Operator::from_byte(*command) else {
+            let Ok(operator) = Operator::try_from(*command) else {
                 return Err(Refusal::BadExpression(place));
             };
             operate_on_two(arithmetic, operator, place, stack)?;

@@ -26,8 +26,8 @@ returns-in_err-stack_variable-in-65 g c =
       lender = e.lender;
     }
 
-pub returns-in_default-from_byte : goal.returns-in_default-from_byte
-returns-in_default-from_byte g c = absurd (operators_cover _ (omega arith) (omega arith) c.in_default-from_byte.ensures)
+pub returns-in_default-try_from : goal.returns-in_default-try_from
+returns-in_default-try_from g c = absurd (operators_cover _ (omega arith) (omega arith) c.in_default-try_from.ensures.1)
 
 pub returns-in_ok-stack_value-in-64 : goal.returns-in_ok-stack_value-in-64
 returns-in_ok-stack_value-in-64 g c =
@@ -90,8 +90,8 @@ returns-in_ok-operate_on_two-in-66-to-72 g c =
     let look : ℕ → _ = λ v. value_at (before_base s) (g.S.Scope.places c.args.scope.now v) in
     let e = c.in_ok-operate_on_two-in-66-to-72.ensures in
     record {
-      answer = taken_ok M look c.args.place (next_command bs) (operator c.in-Some.operator) (from 1 bs) (stacked s) (stacked c.operate_on_two.new.stack) (operator_first bs c.in-Some.operator c.in-Some.ensures) e.answer;
-      shorter = shorter_one bs _ (sym c.in-Some.ensures) (operator_positive c.in-Some.operator);
+      answer = taken_ok M look c.args.place (next_command bs) (operator c.in-Ok.operator) (from 1 bs) (stacked s) (stacked c.operate_on_two.new.stack) (operator_first bs c.in-Ok.operator c.in-Ok.ensures) e.answer;
+      shorter = shorter_one bs _ (sym c.in-Ok.ensures) (operator_positive c.in-Ok.operator);
       room = e.room;
       before = e.before;
       lender = e.lender;

@@ -8,6 +8,7 @@ pub mod Joining
 pub mod Lengths
 pub mod Memory
 pub mod Numbering
+pub mod Numbers
 pub mod Opening
 pub mod Outcomes
 pub mod Promises

@@ -55,7 +55,7 @@ impl From<ReadingFault> for StatementFault {
 }
 
 impl ReadingFault {
-    /// The number by which the outside world knows the fault.
+    /// The number by which the outside world knows the fault; it is no `From`, since it does not keep the place.
     pub fn number(self) -> u8
         ensures { result ≡ reading_number self }
     {
@@ -70,14 +70,13 @@ impl ReadingFault {
         ensures { result ≡ reading_place self }
     {
         match self {
-            ReadingFault::Cut(place) => place,
-            ReadingFault::Unknown(place) => place,
+            ReadingFault::Cut(place) | ReadingFault::Unknown(place) => place,
         }
     }
 }
 
 impl StatementFault {
-    /// The number by which the outside world knows the fault.
+    /// The number by which the outside world knows the fault; it is no `From`, since it does not keep the place.
     pub fn number(self) -> u8
         ensures { result ≡ statement_number self }
     {
@@ -96,16 +95,16 @@ impl StatementFault {
     {
         match self {
             StatementFault::Reading(fault) => fault.place(),
-            StatementFault::BadExpression(place) => place,
-            StatementFault::WrongVariable(place) => place,
-            StatementFault::OverLimit(place) => place,
-            StatementFault::MayNotPause(place) => place,
+            StatementFault::BadExpression(place)
+            | StatementFault::WrongVariable(place)
+            | StatementFault::OverLimit(place)
+            | StatementFault::MayNotPause(place) => place,
         }
     }
 }
 
 impl LoadFault {
-    /// The number by which the outside world knows the fault.
+    /// The number by which the outside world knows the fault; it is no `From`, since it does not keep the place.
     pub fn number(self) -> u8
         ensures { result ≡ load_number self }
     {
@@ -124,12 +123,10 @@ impl LoadFault {
         ensures { result ≡ load_place self }
     {
         match self {
-            LoadFault::BadLength => 0,
-            LoadFault::TooManyVariables => 0,
+            LoadFault::BadLength | LoadFault::TooManyVariables | LoadFault::TickTooLong => 0,
             LoadFault::CutDeclaration(fault) => fault.place(),
             LoadFault::BadDeclaration(place) => place,
             LoadFault::Statement(fault, _) => fault.place(),
-            LoadFault::TickTooLong => 0,
         }
     }
 
@@ -138,13 +135,13 @@ impl LoadFault {
         ensures { result ≡ load_layer self }
     {
         match self {
-            LoadFault::BadLength => Layer::Program,
-            LoadFault::TooManyVariables => Layer::Program,
             LoadFault::CutDeclaration(_) => Layer::Reading,
-            LoadFault::BadDeclaration(_) => Layer::Program,
             LoadFault::Statement(StatementFault::Reading(_), _) => Layer::Reading,
             LoadFault::Statement(_, _) => Layer::Statement,
-            LoadFault::TickTooLong => Layer::Program,
+            LoadFault::BadLength
+            | LoadFault::TooManyVariables
+            | LoadFault::BadDeclaration(_)
+            | LoadFault::TickTooLong => Layer::Program,
         }
     }
 

@@ -5,3 +5,4 @@ pub mod faults;
 pub mod program;
 pub mod promises;
 pub mod refusals;
+pub mod scopes;

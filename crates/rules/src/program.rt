@@ -1,21 +1,26 @@
-//! What a program declares of its variables.
-use arithmetic::operators::Combining;
+//! What a program declares of its variables, and the forms of its statements.
+ghost use Rattle.rules.specs.Numbers.{KindOf, PolicyOf, FormOf};
 
-/// What kind of variable is declared.
+use arithmetic::operators::{Combining, UnknownNumber};
+
+/// The most bytes of a program.
+pub const MOST_BYTES: usize = 4096;
+
+/// What kind of variable is declared, by its number in a declaration.
 #[derive(Clone, Copy, PartialEq, Eq, Debug)]
 pub enum Kind {
-    Input,
-    Private,
-    Shared,
-    Output,
+    Input = 0,
+    Private = 1,
+    Shared = 2,
+    Output = 3,
 }
 
-/// Which copies of a shared variable a join takes.
+/// Which copies of a shared variable a join takes, by its number in a declaration.
 #[derive(Clone, Copy, PartialEq, Eq, Debug)]
 pub enum Policy {
-    All,
-    New,
-    Mod,
+    All = 0,
+    New = 1,
+    Mod = 2,
 }
 
 /// What is declared of a variable. The owner is a private's thread.
@@ -33,11 +38,61 @@ pub struct Variable {
 /// The form of a statement: what its command byte says.
 #[derive(Clone, Copy, PartialEq, Eq, Debug)]
 pub enum Form {
-    Nothing,
-    Set,
-    Pause,
-    If,
-    Loop,
-    Par,
-    Abort,
+    Nothing = 0,
+    Set = 1,
+    Pause = 2,
+    If = 3,
+    Loop = 4,
+    Par = 5,
+    Abort = 6,
+}
+
+impl TryFrom<u8> for Kind {
+    type Error = UnknownNumber;
+
+    ghost try_from_gives = { KindOf };
+
+    fn try_from(number: u8) -> Result<Kind, UnknownNumber> {
+        match number {
+            0 => Ok(Kind::Input),
+            1 => Ok(Kind::Private),
+            2 => Ok(Kind::Shared),
+            3 => Ok(Kind::Output),
+            _ => Err(UnknownNumber(number)),
+        }
+    }
+}
+
+impl TryFrom<u8> for Policy {
+    type Error = UnknownNumber;
+
+    ghost try_from_gives = { PolicyOf };
+
+    fn try_from(number: u8) -> Result<Policy, UnknownNumber> {
+        match number {
+            0 => Ok(Policy::All),
+            1 => Ok(Policy::New),
+            2 => Ok(Policy::Mod),
+            _ => Err(UnknownNumber(number)),
+        }
+    }
+}
+
+impl TryFrom<u8> for Form {
+    type Error = UnknownNumber;
+
+    ghost try_from_gives = { FormOf };
+
+    fn try_from(command: u8) -> Result<Form, UnknownNumber> {
+        match command {
+            0 => Ok(Form::Nothing),
+            1 => Ok(Form::Set),
+            2 => Ok(Form::Pause),
+            3 => Ok(Form::If),
+            4 => Ok(Form::Loop),
+            5 => Ok(Form::Par),
+            6 => Ok(Form::Abort),
+            _ => Err(UnknownNumber(command)),
+        }
+    }
 }

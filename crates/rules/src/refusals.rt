@@ -20,7 +20,7 @@ pub enum CallRefusal {
 }
 
 impl CallRefusal {
-    /// The number by which the outside world knows the refusal.
+    /// The number by which the outside world knows the refusal; it is no `From`, since it does not keep a fault's place.
     pub fn number(self) -> u8
         ensures { result ≡ call_number self }
     {

@@ -118,7 +118,7 @@ impl LoadFault {
         }
     }
 
-    /// The byte of the program that it is at; 0 where no byte is meant.
+    /// The byte of the program that it is at; 0 where no byte is meant, since every fault is told with a place.
     pub fn place(self) -> usize
         ensures { result ≡ load_place self }
     {

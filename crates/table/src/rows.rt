@@ -1,4 +1,4 @@
-//! What a controller knows of each statement.
+//! What a controller knows of each statement. Statements are known by their numbers and expressions by their places, since the table stands in fixed memory.
 ghost use Rattle.std.specs.Prelude.{◌≡◌};
 ghost use Rattle.table.specs.Filling.{blank_row};
 

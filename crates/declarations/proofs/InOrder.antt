@@ -1,7 +1,7 @@
 -- Declarations that are read one after another.
 use Rattle.std.proofs.Common.{◌≡◌, ℕ, zero, suc, ◌+◌, ◌-◌, ◌*◌, ◌<◌, ◌≤◌, Bool, true, false, leb, List, [], ◌∷◌, ◌++◌, length, take, drop, Ok, Err, Result, sym, refl, ap, ◌∙◌, subst, append_assoc, arith}
 use Rattle.std.proofs.lemmas.List.{length-drop, drop-drop}
-use Rattle.std.proofs.lemmas.Bool.{leb-true, le-leb, lt-leb}
+use Rattle.std.proofs.lemmas.Bool.{leb-true}
 use Rattle.rules.specs.Outcomes.{◌>>=◌, ensure}
 use Rattle.rules.specs.Reading.{read_declaration, read_declarations}
 use Rattle.rules.specs.declared.program.Variable.{Variable}
@@ -9,6 +9,7 @@ use Rattle.rules.specs.declared.faults.LoadFault.{LoadFault}
 use Rattle.rules.specs.declared.faults.LoadFault.TheVariants.{CutDeclaration, BadDeclaration}
 use Rattle.rules.specs.declared.faults.ReadingFault.TheVariants.{Cut}
 use Rattle.declarations.specs.Listing.{first_declaration, declarations_in}
+use Rattle.declarations.proofs.Results.{same_value, tested, row_first}
 
 -- Declarations, and the bytes after them.
 abbrev pub Several : Type 0
@@ -40,28 +41,6 @@ module _ (ds : List Variable) (d : Variable) where
   between (Ok q) = ap Ok (sym (append_assoc ds (d ∷ []) q.0))
   between (Err f) = refl
 
--- A test that holds before a result.
-held_test : {B : Type 0} (b : Bool) (f : LoadFault) (r : Result B LoadFault) (x : B) → (ensure b f >>= λ _. r) ≡ Ok x → b ≡ true
-held_test true f r x h = refl
-held_test false f r x h = let z : ◌≡◌ {A = ℕ} 0 1 = cc in absurd (omega arith)
-
-module _ (p : List ℕ) (i : ℕ) (h : i ≤ length p) where
-  -- What is left of a program begins at the place that it was cut off at.
-  place_there : length p - length (drop i p) ≡ i
-  place_there = simp length-drop (omega arith)
-
-  -- Fewer than 16 bytes are a cut declaration.
-  pub cut_there : length p - i < 16 → Err (CutDeclaration (Cut i)) ≡ first_declaration (length p) (drop i p)
-  cut_there k =
-      let b : leb 16 (length (drop i p)) ≡ false = lt-leb 16 (length (drop i p)) (simp length-drop k) in
-      sym (rw (b, place_there))
-
-  -- 16 bytes are a declaration at that place.
-  pub whole_there : 16 ≤ length p - i → (r : Result Variable LoadFault) → r ≡ read_declaration (BadDeclaration i) (take 16 (drop i p)) → r ≡ first_declaration (length p) (drop i p)
-  whole_there k r e =
-      let b : leb 16 (length (drop i p)) ≡ true = le-leb 16 (length (drop i p)) (simp length-drop k) in
-      rw (b, place_there) e
-
 -- Declarations `ds` are read of a program, and n are left from place i on.
 pub record Ahead (p : List ℕ) (ds : List Variable) (n i : ℕ) : Type 0 where
   pub within : i ≤ length p
@@ -71,7 +50,7 @@ module _ (p : List ℕ) (ds : List Variable) (n i : ℕ) (a : Ahead p ds (suc n)
   -- The next declaration is read.
   one_read : (d : Variable) → Ok d ≡ first_declaration (length p) (drop i p) → Ahead p (ds ++ d ∷ []) n (i + 16)
   one_read d e =
-      let l = leb-true 16 (length (drop i p)) (held_test _ _ _ d (sym e)) in
+      let l = leb-true 16 (length (drop i p)) (tested _ _ _ d (sym e)).0 in
       record {
         within = omega (arith, length-drop i p, a.within);
         gives =
@@ -102,24 +81,15 @@ module _ (p : List ℕ) (ds : List Variable) (count k : ℕ) (h : k < count) (a 
   pub turn_refused : (f : LoadFault) → Err f ≡ first_declaration (length p) (drop (1 + 16 * k) p) → Err f ≡ declarations_in p
   turn_refused = one_refused p ds (count - (k + 1)) (1 + 16 * k) one_next
 
--- A row that ends in a result has a result of its first part.
-row_first : {A B : Type 0} (r : Result A LoadFault) (k : A → Result B LoadFault) (y : B) → (r >>= k) ≡ Ok y → (a : A) × (k a ≡ Ok y) × (r ≡ Ok a)
-row_first (Ok a) k y h = (a, h, refl)
-row_first (Err f) k y h = let z : ◌≡◌ {A = ℕ} 0 1 = cc in absurd (omega arith)
-
--- Equal results hold the same.
-same_several : (q r : Several) → ◌≡◌ {A = Result Several LoadFault} (Ok q) (Ok r) → q ≡ r
-same_several q r h = cc
-
 -- Where n declarations are read, there are n of them, and what follows them are the bytes from 16 n on.
 pub declarations_counted : (n e : ℕ) (bs : List ℕ) (r : List Variable × List ℕ) → read_declarations n e bs ≡ Ok r → (length r.0 ≡ n) × (r.1 ≡ drop (16 * n) bs)
 declarations_counted zero e bs r h =
-    let k = same_several ([], bs) r h in
+    let k = same_value ([], bs) r h in
     (sym (ap (λ (q : Several). length q.0) k), sym (ap (λ (q : Several). q.1) k))
 declarations_counted (suc n) e bs r h =
     let z = row_first (first_declaration e bs) _ r (sym (first_alone n e bs) ∙ h) in
     let y = row_first (read_declarations n e (drop 16 bs)) (with_first z.0) r z.1 in
-    let k = same_several _ r y.1 in
+    let k = same_value _ r y.1 in
     let t = declarations_counted n e (drop 16 bs) y.0 y.2 in
     let m : 16 + 16 * n ≡ 16 * suc n = omega arith in
     (sym (ap (λ (q : Several). length q.0) k) ∙ ap suc t.0, sym (ap (λ (q : Several). q.1) k) ∙ t.1 ∙ drop-drop (16 * n) 16 bs ∙ ap (λ i. drop i bs) m)
@@ -130,5 +100,5 @@ declarations_within zero e bs r h = omega arith
 declarations_within (suc n) e bs r h =
     let z = row_first (first_declaration e bs) _ r (sym (first_alone n e bs) ∙ h) in
     let y = row_first (read_declarations n e (drop 16 bs)) (with_first z.0) r z.1 in
-    let l = leb-true 16 (length bs) (held_test _ _ _ z.0 z.2) in
+    let l = leb-true 16 (length bs) (tested _ _ _ z.0 z.2).0 in
     omega (arith, declarations_within n e (drop 16 bs) y.0 y.2, length-drop 16 bs)

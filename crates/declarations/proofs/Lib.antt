@@ -1,5 +1,6 @@
-pub mod Known
-pub mod Held
+pub mod Results
 pub mod InOrder
 pub mod Owners
+pub mod Limits
+pub mod Numbers
 pub mod Onward

@@ -1,5 +1,5 @@
 -- What the declarations of a program say of loading it.
-use Rattle.std.proofs.Common.{◌≡◌, ℕ, suc, ◌+◌, ◌*◌, ◌≤◌, Bool, true, false, ◌&&◌, leb, List, [], ◌∷◌, length, drop, Ok, Err, Result, sym, refl, ap, ◌∙◌, arith}
+use Rattle.std.proofs.Common.{◌≡◌, ℕ, suc, ◌+◌, ◌*◌, ◌≤◌, Bool, true, false, ◌&&◌, leb, List, [], ◌∷◌, length, drop, Ok, Err, Result, sym, ap, ◌∙◌, arith}
 use Rattle.std.proofs.lemmas.Bool.{leb-true, and_parts}
 use Rattle.evaluator.specs.Rates.{most_variables}
 use Rattle.rules.specs.Outcomes.{◌>>=◌, ensure}
@@ -10,15 +10,8 @@ use Rattle.rules.specs.declared.program.Variable.{Variable}
 use Rattle.rules.specs.declared.faults.LoadFault.{LoadFault}
 use Rattle.rules.specs.declared.faults.LoadFault.TheVariants.{BadLength, TooManyVariables, TickTooLong}
 use Rattle.declarations.specs.Listing.{declarations_first, declarations_in, read_main}
+use Rattle.declarations.proofs.Results.{no_result, same_value, tested, row_first}
 use Rattle.declarations.proofs.InOrder.{Several, declarations_counted, declarations_within}
-
--- A refusal is no result.
-no_result : {A : Type 0} {P : Type 0} {f : LoadFault} {a : A} → ◌≡◌ {A = Result A LoadFault} (Err f) (Ok a) → P
-no_result {f = f} {a = a} h = let z : ◌≡◌ {A = ℕ} 0 1 = cc in absurd (omega arith)
-
--- Equal results hold the same list.
-same_list : (ds es : List Variable) → ◌≡◌ {A = Result (List Variable) LoadFault} (Ok ds) (Ok es) → ds ≡ es
-same_list ds es h = cc
 
 -- The declarations alone, of what is read.
 abbrev alone : Several → Result (List Variable) LoadFault
@@ -44,15 +37,9 @@ all_refused e (n ∷ bs) f h = refused_test (leb n most_variables) TooManyVariab
 pub read_refused : (p : List ℕ) (f : LoadFault) → declarations_in p ≡ Err f → read p ≡ Err f
 read_refused p f h = refused_test (leb 1 (length p) && leb (length p) most_bytes) BadLength f (declarations_first (length p) p) (read_all (length p) p) (all_refused (length p) p f) h
 
--- A test that holds before a result, and the result behind it.
-tested : {A : Type 0} (b : Bool) (g : LoadFault) (r : Result A LoadFault) (a : A) → (ensure b g >>= λ _. r) ≡ Ok a → (b ≡ true) × (r ≡ Ok a)
-tested true g r a h = (refl, h)
-tested false g r a h = no_result h
-
 -- Where the declarations alone are a result, they were read.
 alone_read : (r : Result Several LoadFault) (ds : List Variable) → (r >>= alone) ≡ Ok ds → (q : Several) × (r ≡ Ok q) × (q.0 ≡ ds)
-alone_read (Ok q) ds h = (q, refl, same_list q.0 ds h)
-alone_read (Err g) ds h = no_result h
+alone_read r ds h = let z = row_first r alone ds h in (z.0, z.2, same_value z.0.0 ds z.1)
 
 -- A program whose declarations are read: its length, how many it declares, and what loading it goes on with.
 pub record Declares (p : List ℕ) (ds : List Variable) : Type 0 where

@@ -1,10 +1,9 @@
-//! Declarations of variables: what can be declared, how declarations are read, and which variables a thread reads and sets.
+//! Declarations of variables: what can be declared, how declarations are read, and whether their owners are threads of the program.
 #![tactic(auto)]
 
 pub mod declaration;
 pub mod list;
 pub mod program;
 pub mod reading;
-pub mod scopes;
 #[cfg(test)]
 mod tests;

@@ -1,9 +1,9 @@
 //! Declarations good and bad, from tables.
 use crate::list::Declarations;
 use crate::program::{owners_live, read_declarations};
-use crate::scopes::{may_read, may_set};
 use rules::faults::{LoadFault, ReadingFault};
 use rules::program::{Kind, Policy};
+use rules::scopes::{may_read, may_set};
 use std::process::Abort;
 use std::test::Fail;
 
@@ -145,7 +145,7 @@ fn fields_of_declarations(rt: HostRuntime) -> Result<(), Fail> {
     let output = list[2];
     assert_eq!(rt; output.kind(), Kind::Output);
     assert_eq!(rt; output.policy(), Policy::Mod);
-    assert!(rt; output.operator().number() == 3);
+    assert!(rt; u8::from(output.operator()) == 3);
     assert!(rt; list[0].low() == -10);
     Ok(())
 }

@@ -1,25 +1,20 @@
--- Each owner is tested against the threads.
-use Rattle.std.proofs.Common.{◌<◌, ◌≤◌, ap, ◌∙◌, arith}
-use Rattle.rules.specs.Reading.{owners_live}
-use Rattle.declarations.proofs.Owners.{owner_lives, owner_refused, owners_end}
+-- The first owner that is none of the threads decides.
+use Rattle.std.proofs.Common.{◌≡◌, position, ap, ◌∙◌, sym, rules, tests}
+use Rattle.std.proofs.lemmas.Iterator.{YieldsList-from_slice}
+use Rattle.std.proofs.lemmas.Iterator.Search.{position_from_yields_List}
+use Rattle.declarations.proofs.Owners.{bad_at, is_dead, first_dead_decides}
 use Rattle.declarations.proofs.program.owners_live.Goals as goal
 
-pub returns-then-owner-threads : goal.returns-then-owner-threads
-returns-then-owner-threads c =
+pub returns-in-Some : goal.returns-in-Some
+returns-in-Some c =
+    let p = is_dead c.args.threads in
     let ds = c.as_slice-list.result.now in
-    let l : c.args.threads ≤ c.index-list-i.result.owner = omega arith in
-    owner_refused c.args.threads ds c.loop-i.i c.index-list-i.result c.loop-i-test.true c.index-list-i.is l
-    ∙ c.loop-i.invariant
-    ∙ ap (owners_live c.args.threads 1) c.as_slice-list.ensures.same
+    let e : c.position.result ≡ position p ds = position_from_yields_List p _ _ c.position.result c.position.ensures.ran (YieldsList-from_slice ds cc) (λ x b q k. search (rules, tests)) in
+    ap bad_at (sym c.in-Some.is ∙ e) ∙ first_dead_decides c.args.threads ds c.args.declarations.now c.as_slice-list.ensures.same
 
-pub loop-i-preserved : goal.loop-i-preserved
-loop-i-preserved c =
+pub returns-in-None : goal.returns-in-None
+returns-in-None c =
+    let p = is_dead c.args.threads in
     let ds = c.as_slice-list.result.now in
-    let l : c.index-list-i.result.owner < c.args.threads = omega arith in
-    owner_lives c.args.threads ds c.loop-i.i c.index-list-i.result c.loop-i-test.true c.index-list-i.is l ∙ c.loop-i.invariant
-
-pub returns : goal.returns
-returns c =
-    owners_end c.args.threads c.as_slice-list.result.now c.loop-i.i c.loop-i-test.false
-    ∙ c.loop-i.invariant
-    ∙ ap (owners_live c.args.threads 1) c.as_slice-list.ensures.same
+    let e : c.position.result ≡ position p ds = position_from_yields_List p _ _ c.position.result c.position.ensures.ran (YieldsList-from_slice ds cc) (λ x b q k. search (rules, tests)) in
+    ap bad_at (sym c.in-None.is ∙ e) ∙ first_dead_decides c.args.threads ds c.args.declarations.now c.as_slice-list.ensures.same

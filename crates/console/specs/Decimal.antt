@@ -1,5 +1,5 @@
 -- Decimal words: an optional sign and digits, within signed 32 bits.
-use Rattle.std.specs.Prelude.{ℕ, ◌+◌, ◌^◌, Bool, cond, ◌&&◌, List, [], ◌∷◌, length, drop, ℤ, pos, neg_ℤ, Some, None, Ok, Err, Option, Result, nat_le, nat_lt}
+use Rattle.std.specs.Prelude.{ℕ, ◌+◌, ◌^◌, Bool, if◌then◌else◌, ◌&&◌, List, [], ◌∷◌, length, drop, ℤ, pos, neg_ℤ, Some, None, Ok, Err, Option, Result, nat_le, nat_lt}
 use Rattle.std.specs.Option.{ok_or}
 use Rattle.std.specs.Str.Parse.{digits_value, starts_with_minus, without_leading_plus}
 use Rattle.std.specs.Str.{all_ascii_digits}
@@ -13,9 +13,9 @@ numeral ds = all_ascii_digits ds && nat_lt 0 (length ds)
 -- After a minus a numeral of at most 2^31; else, after an optional plus, one below 2^31.
 abbrev pub decimal_in : List ℕ → Option ℤ
 decimal_in w =
-    cond (starts_with_minus w)
-    (cond (numeral (drop 1 w) && nat_le (digits_value 10 (drop 1 w)) (2 ^ 31)) (Some (neg_ℤ (pos (digits_value 10 (drop 1 w))))) None)
-    (cond (numeral (without_leading_plus w) && nat_lt (digits_value 10 (without_leading_plus w)) (2 ^ 31)) (Some (pos (digits_value 10 (without_leading_plus w)))) None)
+    if starts_with_minus w
+    then (if numeral (drop 1 w) && nat_le (digits_value 10 (drop 1 w)) (2 ^ 31) then Some (neg_ℤ (pos (digits_value 10 (drop 1 w)))) else None)
+    else (if numeral (without_leading_plus w) && nat_lt (digits_value 10 (without_leading_plus w)) (2 ^ 31) then Some (pos (digits_value 10 (without_leading_plus w))) else None)
 
 -- The number of the word at a place in its line.
 abbrev pub number_at : ℕ → List ℕ → Result ℤ Problem

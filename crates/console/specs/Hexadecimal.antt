@@ -1,5 +1,5 @@
 -- Hexadecimal words: pairs of digits, the high digit of a byte first.
-use Rattle.std.specs.Prelude.{ℕ, ◌+◌, ◌-◌, ◌*◌, cond, ◌&&◌, List, [], ◌∷◌, Some, None, Ok, codes, Option, Result, nat_le}
+use Rattle.std.specs.Prelude.{ℕ, ◌+◌, ◌-◌, ◌*◌, if◌then◌else◌, ◌&&◌, List, [], ◌∷◌, Some, None, Ok, codes, Option, Result, nat_le}
 use Rattle.std.specs.Option.{ok_or}
 use Rattle.std.specs.Str.{bytes_eq}
 use Rattle.console.specs.declared.problem.Problem.{Problem}
@@ -8,7 +8,8 @@ use Rattle.console.specs.declared.problem.Problem.TheVariants.{NotHexadecimal}
 -- The characters 0 to 9, a to f and A to F stand for 0 to 15; no other is a digit.
 abbrev pub digit_value : ℕ → Option ℕ
 digit_value c =
-    cond (nat_le 48 c && nat_le c 57) (Some (c - 48)) (cond (nat_le 97 c && nat_le c 102) (Some (c - 87)) (cond (nat_le 65 c && nat_le c 70) (Some (c - 55)) None))
+    if nat_le 48 c && nat_le c 57 then Some (c - 48)
+    else (if nat_le 97 c && nat_le c 102 then Some (c - 87) else (if nat_le 65 c && nat_le c 70 then Some (c - 55) else None))
 
 -- Two digits stand for sixteen times the first and the second.
 abbrev pub pair_value : Option ℕ → Option ℕ → Option ℕ
@@ -34,4 +35,4 @@ bytes_at place w = ok_or (bytes_in w) (NotHexadecimal place)
 
 -- The bytes of an expression; the word `-` stands for no bytes.
 abbrev pub expression_at : ℕ → List ℕ → Result (List ℕ) Problem
-expression_at place w = cond (bytes_eq w (codes "-")) (Ok []) (bytes_at place w)
+expression_at place w = if bytes_eq w (codes "-") then Ok [] else bytes_at place w

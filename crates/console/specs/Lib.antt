@@ -1,3 +1,4 @@
+pub mod Choices
 pub mod Decimal
 pub mod Hexadecimal
 pub mod Lines

@@ -1,11 +1,12 @@
 -- What a job has chosen and done, and what it answers to a line.
-use Rattle.std.specs.Prelude.{◌≡◌, ℕ, ◌+◌, ◌-◌, ◌^◌, min, List, Ok, Err, Result, ◌≢◌}
+use Rattle.std.specs.Prelude.{◌≡◌, ℕ, ◌+◌, ◌-◌, ◌^◌, min, List, Some, None, Ok, Err, Option, Result, ◌≢◌, option_and_then}
+use Rattle.std.specs.Option.{option_map_or}
 use Rattle.arithmetic.specs.Plain.{plain}
 use Rattle.arithmetic.specs.Tracing.{tracing}
 use Rattle.evaluator.specs.Outcomes.{mapped}
 use Rattle.evaluator.specs.Rates.{rate_of}
 use Rattle.evaluator.specs.declared.refusal.Refusal.{Refusal}
-use Rattle.console.specs.Lines.{Asked, Said, nothing, arithmetic, evaluate, summary, Means}
+use Rattle.console.specs.Lines.{Asked, Said, arithmetic, evaluate, summary, Means}
 use Rattle.console.specs.declared.answer.Answer.{Answer}
 use Rattle.console.specs.declared.answer.Answer.TheVariants as answers
 use Rattle.console.specs.declared.answer.Rate.{Rate}
@@ -29,14 +30,9 @@ abbrev pub evaluated_by : Choice → Asked → Result Rate Refusal
 evaluated_by Plain a = mapped rates.Plain (rate_of plain a.low a.high a.code a.readings)
 evaluated_by Tracing a = mapped rates.Traced (rate_of tracing a.low a.high a.code a.readings)
 
--- A rate or a refusal as an answer.
-abbrev pub rated : Result Rate Refusal → Answer
-rated (Ok x) = answers.Evaluated x
-rated (Err e) = answers.Refused e
-
 -- One refusal more; the count stops at 2^64 - 1.
 abbrev pub refused_once : Tally → Tally
-refused_once t = record { loads = t.loads; ticks = t.ticks; steps = t.steps; refusals = min (t.refusals + 1) (2 ^ 64 - 1); longest_tick = t.longest_tick; tick_length = t.tick_length }
+refused_once t = record t { refusals = min (t.refusals + 1) (2 ^ 64 - 1) }
 
 -- A refusal is counted, and nothing else.
 abbrev pub counted : Result Rate Refusal → Tally → Tally
@@ -45,19 +41,18 @@ counted (Err e) t = refused_once t
 
 -- The job after a line: `arithmetic` chooses, and `evaluate` counts a refusal.
 abbrev pub performed : Session → Said → Session
-performed s nothing = s
-performed s (arithmetic c) = record { choice = c; tally = s.tally }
-performed s (evaluate a) = record { choice = s.choice; tally = counted (evaluated_by s.choice a) s.tally }
+performed s (arithmetic c) = record s { choice = c }
+performed s (evaluate a) = record s { tally = counted (evaluated_by s.choice a) s.tally }
 performed s summary = s
 
--- The answer to a line.
-abbrev pub answered : Session → Said → Answer
-answered s nothing = answers.Nothing
-answered s (arithmetic c) = answers.Nothing
-answered s (evaluate a) = rated (evaluated_by s.choice a)
-answered s summary = answers.Summary s.tally
+-- The answer to a line: a rate or a refusal to `evaluate`, the tally to `summary`, and none to `arithmetic`.
+abbrev pub answered : Session → Said → Option Answer
+answered s (arithmetic c) = None
+answered s (evaluate a) = Some (answers.Evaluated (evaluated_by s.choice a))
+answered s summary = Some (answers.Summary s.tally)
 
--- A line that means something is performed and answered; a bad line changes nothing.
-abbrev pub Took : Session → List ℕ → Result Answer Problem → Session → Type 0
-Took before text (Ok a) after = (s : Said) × Means text (Ok s) × (a ≡ answered before s) × (after ≡ performed before s)
+-- A line that asks for something is performed and answered; one that asks for nothing has no answer and changes nothing; a bad line changes nothing.
+abbrev pub Took : Session → List ℕ → Result (Option Answer) Problem → Session → Type 0
+Took before text (Ok a) after =
+    (s : Option Said) × Means text (Ok s) × (a ≡ option_and_then (answered before) s) × (after ≡ option_map_or (performed before) s before)
 Took before text (Err e) after = (after ≡ before) × ((e ≢ OutOfMemory) → Means text (Err e))

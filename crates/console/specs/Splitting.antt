@@ -1,5 +1,5 @@
 -- The words of a text, which white space parts.
-use Rattle.std.specs.Prelude.{◌≡◌, ℕ, ◌<◌, List, [], ◌∷◌, ◌++◌, length}
+use Rattle.std.specs.Prelude.{◌≡◌, ℕ, ◌<◌, List, [], ◌∷◌, ◌++◌, length, map}
 use Rattle.std.specs.Borrow.{Bor}
 use Rattle.std.specs.Char.{is_whitespace, is_not_whitespace}
 use Rattle.std.specs.Str.{NoCharPasses, EmptyOrStartsWithPassing}
@@ -20,5 +20,4 @@ Words text (w ∷ ws) = (rest : List ℕ) × First text w rest × Words rest ws
 
 -- What borrowed words hold.
 abbrev pub texts : List (Bor (List ℕ)) → List (List ℕ)
-texts [] = []
-texts (w ∷ ws) = w.now ∷ texts ws
+texts = map (λ w. w.now)

@@ -1,9 +1,9 @@
 -- The text of each answer.
-use Rattle.std.specs.Prelude.{ℕ, List, [], ◌++◌, Some, None, codes, decimal, Option}
+use Rattle.std.specs.Prelude.{ℕ, List, ◌++◌, Some, None, Ok, Err, codes, decimal, Option}
 use Rattle.std.specs.Fmt.{signed_decimal, option_append}
 use Rattle.evaluator.specs.Refusals.{refusal_number, refusal_place}
 use Rattle.console.specs.declared.answer.Answer.{Answer}
-use Rattle.console.specs.declared.answer.Answer.TheVariants.{Nothing, Evaluated, Refused, Summary}
+use Rattle.console.specs.declared.answer.Answer.TheVariants.{Evaluated, Summary}
 use Rattle.console.specs.declared.answer.Rate.{Rate}
 use Rattle.console.specs.declared.answer.Rate.TheVariants.{Plain, Traced}
 use Rattle.console.specs.declared.tally.Tally.{Tally}
@@ -18,9 +18,8 @@ abbrev pub rate_text : Rate → Option (List ℕ)
 rate_text (Plain n) = Some (signed_decimal n ++ codes " -")
 rate_text (Traced x) = None
 
--- A line that has no answer prints no text.
+-- A rate, or the number and the place of a refusal, after `evaluate: `; the tally after `summary: `.
 abbrev pub answer_text : Answer → Option (List ℕ)
-answer_text Nothing = Some []
-answer_text (Evaluated r) = option_append (Some (codes "evaluate: ")) (rate_text r)
-answer_text (Refused e) = Some (codes "evaluate: refused " ++ (decimal (refusal_number e) ++ (codes " place " ++ decimal (refusal_place e))))
+answer_text (Evaluated (Ok r)) = option_append (Some (codes "evaluate: ")) (rate_text r)
+answer_text (Evaluated (Err e)) = Some (codes "evaluate: refused " ++ (decimal (refusal_number e) ++ (codes " place " ++ decimal (refusal_place e))))
 answer_text (Summary t) = Some (codes "summary: " ++ tally_text t)

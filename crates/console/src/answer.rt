@@ -13,12 +13,10 @@ pub enum Rate {
     Traced(Traced),
 }
 
-/// The answer to one line; `Nothing` prints no line.
+/// The answer to a line that has one.
 #[derive(Clone, Copy)]
 pub enum Answer {
-    Nothing,
-    Evaluated(Rate),
-    Refused(Refusal),
+    Evaluated(Result<Rate, Refusal>),
     Summary(Tally),
 }
 
@@ -38,9 +36,8 @@ impl fmt::Display for Answer {
 
     fn fmt<W: fmt::Write>(&self, f: &mut fmt::Formatter<W>) -> fmt::Result {
         match *self {
-            Answer::Nothing => Ok(()),
-            Answer::Evaluated(rate) => write!(f, "evaluate: {rate}"),
-            Answer::Refused(refusal) => {
+            Answer::Evaluated(Ok(rate)) => write!(f, "evaluate: {rate}"),
+            Answer::Evaluated(Err(refusal)) => {
                 let number = refusal.number();
                 let place = refusal.place();
                 write!(f, "evaluate: refused {number} place {place}")

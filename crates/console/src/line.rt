@@ -1,8 +1,9 @@
 //! One line of a job: a command with its words.
 ghost use Rattle.std.specs.Prelude.{◌≡◌, ◌≤◌, length, vec_items};
 ghost use Rattle.evaluator.specs.Outcomes.{mapped};
+ghost use Rattle.console.specs.Choices.{choice_in};
 ghost use Rattle.console.specs.Decimal.{numbers_from};
-ghost use Rattle.console.specs.Lines.{said, evaluation_said, limits_shown, limits_in, readings_in, evaluation_in, choice_named, choice_in, only_word, command_line, line_of, ReadsAs};
+ghost use Rattle.console.specs.Lines.{said, evaluation_said, limits_shown, limits_in, readings_in, evaluation_in, only_word, command_line, asked_for, line_of, ReadsAs};
 ghost use Rattle.console.specs.Outcomes.{Gives};
 ghost use Rattle.console.specs.Splitting.{texts};
 
@@ -10,7 +11,7 @@ use crate::choice::Choice;
 use crate::problem::Problem;
 use crate::words::{expression_at, number_at, words_of};
 use evaluator::limits::Limits;
-use evaluator::rate::MOST_VARIABLES;
+use evaluator::rate::{Formula, MOST_VARIABLES};
 use std::alloc::Global;
 
 /// An expression to evaluate, with the readings of input variables 0, 1, .., and the limits of the rate.
@@ -21,10 +22,22 @@ pub struct Evaluation {
     pub readings: Vec<i32>,
 }
 
-/// What a line asks for.
+impl Evaluation {
+    // The formula that it evaluates.
+    pub(crate) fn formula(&self) -> Formula<'_>
+        ensures limits { result.limits ≡ self.now.limits }
+        ensures code { result.code.now ≡ vec_items self.now.code }
+    {
+        Formula {
+            limits: self.limits,
+            code: self.code.as_slice(),
+        }
+    }
+}
+
+/// What a line asks for, where it asks for something.
 #[derive(Drop)]
 pub enum Line {
-    Nothing,
     Arithmetic(Choice),
     Evaluate(Evaluation),
     Summary,
@@ -49,7 +62,7 @@ fn numbers_in(heap: Global, words: &[&str]) -> Result<Vec<i32>, Problem>
 {
     let mut numbers = Vec::new(heap);
     for (i, word) in words.iter().enumerate() {
-        let number = number_at(FIRST_READING + i, *word)?;
+        let number = number_at(FIRST_READING + i, word)?;
         numbers.push(number)?;
     }
     Ok(numbers)
@@ -72,8 +85,8 @@ fn evaluation_in(heap: Global, words: &[&str]) -> Result<Evaluation, Problem>
     let [low, high, code, readings @ ..] = words else {
         return Err(Problem::MissingWord);
     };
-    let limits = limits_in(*low, *high)?;
-    let code = expression_at(heap, 4, *code)?;
+    let limits = limits_in(low, high)?;
+    let code = expression_at(heap, 4, code)?;
     let readings = readings_in(heap, readings)?;
     Ok(Evaluation {
         limits,
@@ -82,24 +95,13 @@ fn evaluation_in(heap: Global, words: &[&str]) -> Result<Evaluation, Problem>
     })
 }
 
-// The arithmetic of that name.
-fn choice_named(name: &str) -> Result<Choice, Problem>
-    ensures { result ≡ choice_named name.now }
-{
-    match name {
-        "plain" => Ok(Choice::Plain),
-        "tracing" => Ok(Choice::Tracing),
-        _ => Err(Problem::NoSuchArithmetic),
-    }
-}
-
 // What stands after `arithmetic`.
 fn choice_in(words: &[&str]) -> Result<Choice, Problem>
     ensures { result ≡ choice_in (texts words.now) }
 {
     match words {
         [] => Err(Problem::MissingWord),
-        [name] => choice_named(*name),
+        [name] => name.parse(),
         _ => Err(Problem::ExtraWord),
     }
 }
@@ -128,18 +130,18 @@ fn command_line(heap: Global, command: &str, words: &[&str]) -> Result<Line, Pro
 }
 
 // The line of all its words; none, or a first word that begins with `#`, ask for nothing.
-fn line_of(heap: Global, words: &[&str]) -> Result<Line, Problem>
-    ensures { Gives said (line_of (texts words.now)) result }
+fn line_of(heap: Global, words: &[&str]) -> Result<Option<Line>, Problem>
+    ensures { Gives asked_for (line_of (texts words.now)) result }
 {
     match words {
-        [] => Ok(Line::Nothing),
-        [first, ..] if first.starts_with('#') => Ok(Line::Nothing),
-        [command, rest @ ..] => command_line(heap, *command, rest),
+        [] => Ok(None),
+        [first, ..] if first.starts_with('#') => Ok(None),
+        [command, rest @ ..] => command_line(heap, command, rest).map(Some),
     }
 }
 
-/// What a line of text asks for.
-pub fn parse(heap: Global, text: &str) -> Result<Line, Problem>
+/// What a line of text asks for, if it asks for something.
+pub fn parse(heap: Global, text: &str) -> Result<Option<Line>, Problem>
     ensures { ReadsAs text.now result }
 {
     let words = words_of(heap, text)?;

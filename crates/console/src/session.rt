@@ -1,19 +1,18 @@
 //! A job under way: the arithmetic that it has chosen, and what it has done.
 ghost use Rattle.std.specs.Prelude.{◌≡◌};
 ghost use Rattle.console.specs.Lines.{said, evaluation_said};
-ghost use Rattle.console.specs.Sessions.{fresh, evaluated_by, rated, counted, performed, answered, Took};
+ghost use Rattle.console.specs.Sessions.{fresh, evaluated_by, counted, performed, answered, Took};
 
 use crate::answer::{Answer, Rate};
 use crate::choice::Choice;
 use crate::line::{Evaluation, Line, parse};
 use crate::problem::Problem;
 use crate::tally::Tally;
-use evaluator::rate::{plain_rate, traced_rate};
 use evaluator::refusal::Refusal;
 use std::alloc::Global;
 
 /// A job under way.
-#[derive(Clone, Copy)]
+#[derive(Clone, Copy, Default)]
 pub struct Session {
     choice: Choice,
     tally: Tally,
@@ -23,12 +22,11 @@ pub struct Session {
 fn rate_in(choice: Choice, evaluation: &Evaluation) -> Result<Rate, Refusal>
     ensures { result ≡ evaluated_by choice (evaluation_said evaluation.now) }
 {
-    let limits = evaluation.limits;
-    let code = evaluation.code.as_slice();
+    let formula = evaluation.formula();
     let readings = evaluation.readings.as_slice();
     match choice {
-        Choice::Plain => Ok(Rate::Plain(plain_rate(limits, code, readings)?)),
-        Choice::Tracing => Ok(Rate::Traced(traced_rate(limits, code, readings)?)),
+        Choice::Plain => formula.plain_rate(readings).map(Rate::Plain),
+        Choice::Tracing => formula.traced_rate(readings).map(Rate::Traced),
     }
 }
 
@@ -37,56 +35,43 @@ impl Session {
     pub fn new() -> Session
         ensures { result ≡ fresh }
     {
-        let tally = Tally {
-            loads: 0,
-            ticks: 0,
-            steps: 0,
-            refusals: 0,
-            longest_tick: 0,
-            tick_length: 0,
-        };
-        Session {
-            choice: Choice::Plain,
-            tally,
-        }
+        Session::default()
     }
 
     // Evaluates in the chosen arithmetic, and counts a refusal.
-    fn evaluate(&mut self, evaluation: &Evaluation) -> Answer
-        ensures answer { result ≡ rated (evaluated_by self.old.choice (evaluation_said evaluation.now)) }
-        ensures tally { self.new.tally ≡ counted (evaluated_by self.old.choice (evaluation_said evaluation.now)) self.old.tally }
-        ensures choice { self.new.choice ≡ self.old.choice }
+    fn evaluate(&mut self, evaluation: &Evaluation) -> Result<Rate, Refusal>
+        ensures rate { result ≡ evaluated_by self.old.choice (evaluation_said evaluation.now) }
+        ensures state { self.new ≡ record self.old { tally = counted (evaluated_by self.old.choice (evaluation_said evaluation.now)) self.old.tally } }
     {
-        match rate_in(self.choice, evaluation) {
-            Ok(rate) => Answer::Evaluated(rate),
-            Err(refusal) => {
-                self.tally.refusals = self.tally.refusals.saturating_add(1);
-                Answer::Refused(refusal)
-            }
+        let rate = rate_in(self.choice, evaluation);
+        if rate.is_err() {
+            self.tally.refusals = self.tally.refusals.saturating_add(1);
         }
+        rate
     }
 
-    /// Performs a line and answers it.
-    pub fn perform(&mut self, line: &Line) -> Answer
+    /// Performs a line and answers it, if it has an answer.
+    pub fn perform(&mut self, line: &Line) -> Option<Answer>
         ensures answer { result ≡ answered self.old (said line.now) }
         ensures state { self.new ≡ performed self.old (said line.now) }
     {
         match line {
-            Line::Nothing => Answer::Nothing,
             Line::Arithmetic(choice) => {
                 self.choice = *choice;
-                Answer::Nothing
+                None
             }
-            Line::Evaluate(evaluation) => self.evaluate(evaluation),
-            Line::Summary => Answer::Summary(self.tally),
+            Line::Evaluate(evaluation) => Some(Answer::Evaluated(self.evaluate(evaluation))),
+            Line::Summary => Some(Answer::Summary(self.tally)),
         }
     }
 
     /// Reads a line of text, performs it and answers it; a bad line changes nothing.
-    pub fn take_line(&mut self, heap: Global, text: &str) -> Result<Answer, Problem>
+    pub fn take_line(&mut self, heap: Global, text: &str) -> Result<Option<Answer>, Problem>
         ensures { Took self.old text.now result self.new }
     {
-        let line = parse(heap, text)?;
+        let Some(line) = parse(heap, text)? else {
+            return Ok(None);
+        };
         Ok(self.perform(&line))
     }
 }

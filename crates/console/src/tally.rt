@@ -5,7 +5,7 @@ ghost use Rattle.console.specs.Texts.{tally_text};
 use std::fmt;
 
 /// How much a job has done, and the tick length of the program that is loaded, 0 with none.
-#[derive(Clone, Copy)]
+#[derive(Clone, Copy, Default)]
 pub struct Tally {
     pub loads: u64,
     pub ticks: u64,

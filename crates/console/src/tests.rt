@@ -30,7 +30,10 @@ fn good_lines_are_answered(rt: HostRuntime) -> Result<(), Fail> {
             "summary: loads 0 ticks 0 steps 0 refusals 2 longest tick 0 of 0",
         ),
     ] {
-        let answered = session.take_line(heap, line)?.to_string(heap)?;
+        let answered = match session.take_line(heap, line)? {
+            Some(answer) => answer.to_string(heap)?,
+            None => String::new(heap),
+        };
         assert!(rt; answered.as_str() == answer, "{}", line);
     }
     Ok(())

@@ -12,11 +12,7 @@ use std::alloc::{AllocError, Global};
 pub fn words_of(heap: Global, text: &str) -> Result<Vec<&str>, AllocError>
     ensures { IfOk result (λ v. Words text.now (texts v.items)) }
 {
-    let mut words = Vec::new(heap);
-    for word in text.split_whitespace() {
-        words.push(word)?;
-    }
-    Ok(words)
+    text.split_whitespace().collect(heap)
 }
 
 /// What a hexadecimal digit stands for, in either case.
@@ -24,12 +20,7 @@ pub fn digit_value(character: u8) -> Option<u8>
     ensures value { result ≡ digit_value character }
     ensures bound { IfSome result (λ digit. digit < 16) }
 {
-    match character {
-        b'0'..=b'9' => Some(character - b'0'),
-        b'a'..=b'f' => Some(character - b'a' + 10),
-        b'A'..=b'F' => Some(character - b'A' + 10),
-        _ => None,
-    }
+    char::from(character).to_digit(16).map(|digit| digit as u8)
 }
 
 /// The byte of two hexadecimal digits.
@@ -46,6 +37,7 @@ pub fn bytes_at(heap: Global, place: usize, word: &str) -> Result<Vec<u8>, Probl
     ensures { Gives vec_items (bytes_at place word.now) result }
 {
     let mut bytes = Vec::new(heap);
+    // A slice pattern hands out both digits of a pair, and leaves an odd one over; a chunk of two would be taken apart again.
     let mut rest = word.as_bytes();
     while let [high, low, after @ ..] = rest {
         let byte = pair_value(*high, *low).ok_or(Problem::NotHexadecimal(place))?;

@@ -1,11 +1,11 @@
 -- Evaluations over related values are related.
-use Rattle.std.proofs.Common.{◌≡◌, ℕ, suc, Bool, true, false, cond, ◌&&◌, ltb, leb, List, [], ◌∷◌, length, ℤ, Some, None, Ok, Err, Option, Result, refl, ap}
-use Rattle.std.proofs.lemmas.Bool.{true≢false, false≢true}
+use Rattle.std.proofs.Common.{◌≡◌, ℕ, suc, Bool, true, false, cond, ◌&&◌, leb, List, [], ◌∷◌, length, ℤ, Some, None, Ok, Err, Option, Result, refl, ap, arith}
+use Rattle.std.proofs.lemmas.Grind.{common_steps}
 use Rattle.arithmetic.specs.Meaning.{Meaning, two, inverse}
 use Rattle.arithmetic.specs.declared.operators.Operator.{Operator}
 use Rattle.arithmetic.specs.declared.operators.Combining.{Combining}
 use Rattle.evaluator.specs.Commands.{Command, constant, variable, operator, inversion, Placed, commands_of}
-use Rattle.evaluator.specs.Evaluating.{deepest, longest, stack_one, stack_found, operate_two, operate_one, only, performed, step, run, evaluated}
+use Rattle.evaluator.specs.Evaluating.{longest, stack_one, stack_found, operate_two, operate_one, only, performed, step, run, evaluated}
 use Rattle.evaluator.specs.Outcomes.{and_then, mapped}
 use Rattle.evaluator.specs.Rates.{rate_of, reading_of, most_variables}
 use Rattle.evaluator.specs.declared.refusal.Refusal.{Refusal}
@@ -43,82 +43,52 @@ module _ {V W : Type 0} where
   module _ (R : V → W → Type 0) where
     -- Related lists are as long as each other.
     pub lists_length : (xs : List V) (ys : List W) → ListsAlike R xs ys → length xs ≡ length ys
-    lists_length [] [] h = refl
-    lists_length [] (y ∷ ys) h = absurd h
+    lists_length [] ys h = grind (arith, common_steps)
     lists_length (x ∷ xs) [] h = absurd h
     lists_length (x ∷ xs) (y ∷ ys) h = ap suc (lists_length xs ys h.1)
 
     -- The same test between related results gives related results.
     pub conds_alike : (b c : Bool) (r s : Result V Refusal) (r' s' : Result W Refusal) → b ≡ c →
         (b ≡ true → ResultsAlike R r r') → (b ≡ false → ResultsAlike R s s') → ResultsAlike R (cond b r s) (cond c r' s')
-    conds_alike true true r s r' s' e h k = h refl
-    conds_alike true false r s r' s' e h k = absurd (true≢false e)
-    conds_alike false true r s r' s' e h k = absurd (false≢true e)
-    conds_alike false false r s r' s' e h k = k refl
+    conds_alike b c r s r' s' e h k = grind (arith, common_steps)
 
 -- Going on from related results with functions that keep the relation gives related results.
 pub and_then_alike : {A B C D : Type 0} (R : A → B → Type 0) (S : C → D → Type 0) (r : Result A Refusal) (s : Result B Refusal)
     (f : A → Result C Refusal) (g : B → Result D Refusal) → ResultsAlike R r s →
     ((a : A) (b : B) → R a b → ResultsAlike S (f a) (g b)) → ResultsAlike S (and_then r f) (and_then s g)
-and_then_alike R S (Ok a) (Ok b) f g h k = k a b h
-and_then_alike R S (Ok a) (Err e) f g h k = absurd h
-and_then_alike R S (Err e) (Ok b) f g h k = absurd h
-and_then_alike R S (Err e) (Err d) f g h k = h
+and_then_alike R S r s f g h k = grind (arith, common_steps)
 
 -- Functions that keep the relation give related results of related results.
 pub mapped_alike : {A B C D : Type 0} (R : A → B → Type 0) (S : C → D → Type 0) (r : Result A Refusal) (s : Result B Refusal)
     (f : A → C) (g : B → D) → ResultsAlike R r s → ((a : A) (b : B) → R a b → S (f a) (g b)) → ResultsAlike S (mapped f r) (mapped g s)
-mapped_alike R S (Ok a) (Ok b) f g h k = k a b h
-mapped_alike R S (Ok a) (Err e) f g h k = absurd h
-mapped_alike R S (Err e) (Ok b) f g h k = absurd h
-mapped_alike R S (Err e) (Err d) f g h k = h
+mapped_alike R S r s f g h k = grind (arith, common_steps)
 
 module _ {V W : Type 0} (R : V → W → Type 0) where
   -- Stacking related values on related stacks gives related results.
   pub stack_one_alike : (p : ℕ) (x : V) (y : W) (xs : List V) (ys : List W) → R x y → ListsAlike R xs ys →
       ResultsAlike (ListsAlike R) (stack_one p x xs) (stack_one p y ys)
-  stack_one_alike p x y xs ys h k =
-      conds_alike (ListsAlike R) _ _ _ _ _ _ (ap (λ n. ltb n deepest) (lists_length R xs ys k)) (λ _. (h, k)) (λ _. refl)
+  stack_one_alike p x y xs ys h k = let e = lists_length R xs ys k in grind (arith, common_steps)
 
   -- Stacking what was found, where both or neither were found, gives related results.
   pub stack_found_alike : (p : ℕ) (x : Option V) (y : Option W) (xs : List V) (ys : List W) → OptionsAlike R x y → ListsAlike R xs ys →
       ResultsAlike (ListsAlike R) (stack_found p x xs) (stack_found p y ys)
-  stack_found_alike p None None xs ys h k =
-      conds_alike (ListsAlike R) _ _ _ _ _ _ (ap (λ n. ltb n deepest) (lists_length R xs ys k)) (λ _. refl) (λ _. refl)
-  stack_found_alike p None (Some y) xs ys h k = absurd h
-  stack_found_alike p (Some x) None xs ys h k = absurd h
-  stack_found_alike p (Some x) (Some y) xs ys h k = stack_one_alike p x y xs ys h k
+  stack_found_alike p x y xs ys h k = let e = lists_length R xs ys k in grind (arith, common_steps)
 
   -- Operators on two values that keep the relation give related results of related stacks.
   pub operate_two_alike : (p : ℕ) (f : V → V → V) (g : W → W → W) (xs : List V) (ys : List W) →
       ((x x' : V) (y y' : W) → R x y → R x' y' → R (f x x') (g y y')) → ListsAlike R xs ys →
       ResultsAlike (ListsAlike R) (operate_two p f xs) (operate_two p g ys)
-  operate_two_alike p f g [] [] keep h = refl
-  operate_two_alike p f g [] (y ∷ ys) keep h = absurd h
-  operate_two_alike p f g (x ∷ xs) [] keep h = absurd h
-  operate_two_alike p f g (x ∷ []) (y ∷ []) keep h = refl
-  operate_two_alike p f g (x ∷ []) (y ∷ y' ∷ ys) keep h = absurd h.1
-  operate_two_alike p f g (x ∷ x' ∷ xs) (y ∷ []) keep h = absurd h.1
-  operate_two_alike p f g (x ∷ x' ∷ xs) (y ∷ y' ∷ ys) keep h = (keep x' x y' y h.1.0 h.0, h.1.1)
+  operate_two_alike p f g xs ys keep h = grind (arith, common_steps)
 
   -- Operators on one value that keep the relation give related results of related stacks.
   pub operate_one_alike : (p : ℕ) (f : V → V) (g : W → W) (xs : List V) (ys : List W) →
       ((x : V) (y : W) → R x y → R (f x) (g y)) → ListsAlike R xs ys →
       ResultsAlike (ListsAlike R) (operate_one p f xs) (operate_one p g ys)
-  operate_one_alike p f g [] [] keep h = refl
-  operate_one_alike p f g [] (y ∷ ys) keep h = absurd h
-  operate_one_alike p f g (x ∷ xs) [] keep h = absurd h
-  operate_one_alike p f g (x ∷ xs) (y ∷ ys) keep h = (keep x y h.0, h.1)
+  operate_one_alike p f g xs ys keep h = grind (arith, common_steps)
 
   -- What remains of related stacks is related.
   pub only_alike : (xs : List V) (ys : List W) → ListsAlike R xs ys → ResultsAlike R (only xs) (only ys)
-  only_alike [] [] h = refl
-  only_alike [] (y ∷ ys) h = absurd h
-  only_alike (x ∷ xs) [] h = absurd h
-  only_alike (x ∷ []) (y ∷ []) h = h.0
-  only_alike (x ∷ []) (y ∷ y' ∷ ys) h = absurd h.1
-  only_alike (x ∷ x' ∷ xs) (y ∷ []) h = absurd h.1
-  only_alike (x ∷ x' ∷ xs) (y ∷ y' ∷ ys) h = refl
+  only_alike xs ys h = grind (arith, common_steps)
 
   module _ (M : Meaning V) (N : Meaning W) (𝓐 : Alike R M N) where
     module _ (look : ℕ → Option V) (look' : ℕ → Option W) (𝓛 : (v : ℕ) → OptionsAlike R (look v) (look' v)) where

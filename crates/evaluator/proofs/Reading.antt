@@ -4,8 +4,8 @@ use mir.ValLaws.{to_z-Fits}
 use Rattle.std.specs.List.{AllByRecursion as All}
 use Rattle.std.proofs.lemmas.Int.{to_z-of_z, of_z-to_z}
 use Rattle.std.proofs.lemmas.Bool.{cond_both, eqb-true}
+use Rattle.std.proofs.lemmas.Grind.{common_steps}
 use Rattle.arithmetic.specs.declared.operators.Operator.{Operator}
-use Rattle.arithmetic.specs.declared.operators.Operator.TheVariants.{Add, Subtract, Multiply, Lesser, Greater, LessThan, Equal}
 use Rattle.arithmetic.specs.Operators.{operator_byte, not_byte}
 use Rattle.evaluator.specs.Commands.{Command, constant, variable, operator, inversion, command_byte, four_bytes, signed_of, operands, written, Writable, operators, operator_among, single, constant_in, variable_in, with_rest, next_command, Placed, listed, listing, commands_of, one_more, all_read}
 use Rattle.evaluator.specs.Promises.{ReadingInvertsWriting}
@@ -54,13 +54,7 @@ module _ (a b c d : ℕ) (p : a < 256) (q : b < 256) (r : c < 256) (s : d < 256)
 next_back : (c : Command) (bs : List ℕ) → Writable c → next_command (command_byte c ∷ operands c ++ bs) ≡ Some (c, bs)
 next_back (constant n) bs w = ap (λ z. Some (constant z, bs)) (signed_back n w)
 next_back (variable v) bs w = refl
-next_back (operator Add) bs w = refl
-next_back (operator Subtract) bs w = refl
-next_back (operator Multiply) bs w = refl
-next_back (operator Lesser) bs w = refl
-next_back (operator Greater) bs w = refl
-next_back (operator LessThan) bs w = refl
-next_back (operator Equal) bs w = refl
+next_back (operator o) bs w = grind (arith, common_steps)
 next_back inversion bs w = refl
 
 -- Written commands are read as those commands.
@@ -92,8 +86,7 @@ constant_found (a ∷ b ∷ c ∷ d ∷ bs) h =
 
 -- A variable that is found was written.
 variable_found : (bs : List ℕ) → Bytes bs → Found (0x41 ∷ bs) (variable_in bs)
-variable_found [] h = tt
-variable_found (v ∷ bs) h = (h.0, refl, h.1)
+variable_found bs h = grind (arith, common_steps)
 
 module _ (b : ℕ) (bs : List ℕ) (h : Bytes bs) where
   -- An operator that is found among others was written.
@@ -127,8 +120,7 @@ Read bs (Some cs) = All Writable cs × (written cs ≡ bs)
 
 -- If the rest was read right, so is one more command before it.
 one_more_read : (c : Command) (rest bs : List ℕ) (o : Option (List Command)) → Writable c → command_byte c ∷ operands c ++ rest ≡ bs → Read rest o → Read bs (one_more (Some c) o)
-one_more_read c rest bs None w e r = tt
-one_more_read c rest bs (Some cs) w e r = ((w, r.0), ap (λ l. command_byte c ∷ operands c ++ l) r.1 ∙ e)
+one_more_read c rest bs o w e r = grind (arith, common_steps)
 
 -- If all that is shorter is read right, so is what is listed from a found command on.
 listed_read : (bs : List ℕ) (more : List ℕ → List Placed) (place : ℕ) (o : Option (Command × List ℕ)) → Found bs o → ((rest : List ℕ) → Bytes rest → length rest < length bs → Read rest (all_read (more rest))) → Read bs (all_read (listed more place o))

@@ -1,9 +1,10 @@
 -- Tracing keeps the rate, and a probe that is not in the mask did not enter.
-use Rattle.std.proofs.Common.{◌≡◌, ℕ, ◌/◌, ◌%◌, ◌^◌, ◌<◌, ◌≤◌, max, true, false, eqb, ltb, List, length, get_or, ℤ, pos, Some, None, Ok, Err, Option, Result, sym, refl, ap, ◌∙◌, subst, ap₂, inl, inr, one-mul, arith}
+use Rattle.std.proofs.Common.{◌≡◌, ℕ, ◌/◌, ◌%◌, ◌^◌, ◌<◌, ◌≤◌, max, true, false, eqb, ltb, List, length, get_or, ℤ, pos, Ok, Err, Option, Result, sym, refl, ap, ◌∙◌, subst, ap₂, inl, inr, one-mul, arith}
 use lib.Bits.{bit_or, or_shr, or_step}
+use Rattle.std.proofs.lemmas.Grind.{common_steps}
 use Rattle.std.proofs.lemmas.Nat.{shl-shr}
 use Rattle.std.proofs.lemmas.Option.{slice_get-get_or, slice_get_past}
-use Rattle.std.proofs.lemmas.Bool.{true≢false, leb-true, eqb-false, ne_eqb, lt-ltb, cases_lt, cases_eq, cond-true}
+use Rattle.std.proofs.lemmas.Bool.{true≢false, leb-true, lt-ltb, cases_lt, cases_eq, cond-true}
 use Rattle.std.specs.List.{slice_get}
 use Rattle.arithmetic.specs.Plain.{plain, plain_two, plain_not, plain_combined, clamped}
 use Rattle.arithmetic.specs.Tracing.{tracing, probe_bit, traced}
@@ -32,15 +33,11 @@ shows_alike = record {
 
 -- A reading shows the same number in both arithmetics.
 shows_reading : (v : ℕ) (n : Option ℤ) → OptionsAlike Shows (reading_value tracing v n) (reading_value plain v n)
-shows_reading v None = tt
-shows_reading v (Some n) = refl
+shows_reading v n = grind (arith, common_steps)
 
 -- Results that show the same are the same but for the masks.
 shows_mapped : (r : Result Traced Refusal) (s : Result ℤ Refusal) → ResultsAlike Shows r s → mapped (λ (x : Traced). x.number) r ≡ s
-shows_mapped (Ok x) (Ok n) h = ap Ok h
-shows_mapped (Ok x) (Err e) h = absurd h
-shows_mapped (Err e) (Ok n) h = absurd h
-shows_mapped (Err e) (Err f) h = ap Err h
+shows_mapped r s h = grind (arith, common_steps)
 
 -- Tracing never changes a rate.
 pub tracing_keeps_the_rate : TracingKeepsTheRate
@@ -54,11 +51,11 @@ united_bit i m n = omega (arith, or_shr m n i, or_step (m / 2 ^ i) (n / 2 ^ i))
 
 -- A probe that is absent of united masks is absent of the first.
 absent_first : (i m n : ℕ) → has_probe i (bit_or m n) ≡ false → has_probe i m ≡ false
-absent_first i m n h = ne_eqb (m / 2 ^ i % 2) 1 (λ e. eqb-false (bit_or m n / 2 ^ i % 2) 1 h (omega (arith, united_bit i m n)))
+absent_first i m n h = let bit = united_bit i m n in grind (arith, common_steps)
 
 -- A probe that is absent of united masks is absent of the second.
 absent_second : (i m n : ℕ) → has_probe i (bit_or m n) ≡ false → has_probe i n ≡ false
-absent_second i m n h = ne_eqb (n / 2 ^ i % 2) 1 (λ e. eqb-false (bit_or m n / 2 ^ i % 2) 1 h (omega (arith, united_bit i m n)))
+absent_second i m n h = let bit = united_bit i m n in grind (arith, common_steps)
 
 -- Every input variable is among the probes of its own bit.
 has_own_probe : (i : ℕ) → i < 32 → has_probe i (probe_bit i) ≡ true
@@ -97,8 +94,7 @@ module _ (i : ℕ) where
 
   -- The same reading gives values that are the same.
   but_for_same : (v : ℕ) (n : Option ℤ) → OptionsAlike ButFor (reading_value tracing v n) (reading_value tracing v n)
-  but_for_same v None = tt
-  but_for_same v (Some n) = (refl, λ _. refl)
+  but_for_same v n = grind (arith, common_steps)
 
   -- Any two readings of probe i give values that are the same but for it.
   but_for_own : i < 32 → (m n : ℤ) → ButFor (tracing.reading i m) (tracing.reading i n)

@@ -1,9 +1,10 @@
 -- The evaluator's loop: after each turn, what is left to do gives what the whole gives.
-use Rattle.std.proofs.Common.{◌≡◌, ℕ, zero, suc, ◌-◌, ◌<◌, ◌≤◌, List, [], ◌∷◌, length, Some, None, Ok, Err, Option, Result, sym, refl, ap, ◌∙◌, arith}
+use Rattle.std.proofs.Common.{◌≡◌, ℕ, zero, suc, ◌-◌, ◌<◌, ◌≤◌, List, [], ◌∷◌, length, Ok, Err, Option, sym, refl, ap, ◌∙◌, arith}
+use Rattle.std.proofs.lemmas.Grind.{common_steps}
 use Rattle.arithmetic.specs.Meaning.{Meaning}
 use Rattle.evaluator.specs.Commands.{Command, next_command, listed, listing, commands_of, Placed}
-use Rattle.evaluator.specs.Evaluating.{performed, run, taken}
-use Rattle.evaluator.specs.Outcomes.{and_then, mapped}
+use Rattle.evaluator.specs.Evaluating.{run, taken}
+use Rattle.evaluator.specs.Outcomes.{and_then}
 use Rattle.evaluator.specs.declared.refusal.Refusal.{Refusal}
 
 module _ {V : Type 0} (M : Meaning V) (look : ℕ → Option V) where
@@ -20,11 +21,7 @@ module _ {V : Type 0} (M : Meaning V) (look : ℕ → Option V) where
   -- Taking the first command and running the others is running all.
   run_taken : (more : List ℕ → List Placed) (p : ℕ) (o : Option (Command × List ℕ)) (st : List V) →
       run M look (listed more p o) st ≡ and_then (taken M look p o st) (λ q. run M look (more q.1) q.0)
-  run_taken more p None st = refl
-  run_taken more p (Some c) st = go (performed M look p c.0 st) where
-    go : (r : Result (List V) Refusal) → and_then r (run M look (more c.1)) ≡ and_then (mapped (λ st'. (st', c.1)) r) (λ (q : List V × List ℕ). run M look (more q.1) q.0)
-    go (Ok st') = refl
-    go (Err e) = refl
+  run_taken more p o st = grind (arith, common_steps)
 
   -- The commands left, of which there is at least one.
   left_first : (fuel e : ℕ) (rest : List ℕ) (st : List V) → 0 < length rest → length rest ≤ fuel →
@@ -55,8 +52,4 @@ module _ {V : Type 0} (M : Meaning V) (look : ℕ → Option V) where
 
   -- With nothing left, what is stacked is what all commands give.
   pub last_turn : (code rest : List ℕ) (st : List V) → Turn code rest st → length rest ≡ 0 → run M look (commands_of code) [] ≡ Ok st
-  last_turn code [] st t e = t.same ∙ done t.fuel where
-    done : (n : ℕ) → run M look (listing n (length code) []) st ≡ Ok st
-    done zero = refl
-    done (suc n) = refl
-  last_turn code (b ∷ bs) st t e = absurd (omega arith)
+  last_turn code rest st t e = let same = t.same in grind (arith, common_steps)

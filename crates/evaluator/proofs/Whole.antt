@@ -23,13 +23,11 @@ module _ {V : Type 0} where
       ap (take 1024) e ∙ ap (λ n. take n s.places.now) is ∙ b
 
   module _ (M : Meaning V) (places : ℕ → Option ℕ) where
-    -- The value that the commands leave, over a memory and bytes of the right lengths.
-    pub answer_is : (m b : List V) (bs : List ℕ) (ran : Result (List V) Refusal) → length m ≡ 1040 → 0 < length bs → length bs ≤ 64 →
-        b ≡ take 1024 m → ran ≡ run M (λ v. value_at b (places v)) (commands_of bs) [] →
-        and_then ran only ≡ evaluated_in M places m bs
-    answer_is m b bs ran long some few e h =
+    -- What the commands leave, over a memory and bytes of the right lengths.
+    pub answer_is : (m b : List V) (bs : List ℕ) → length m ≡ 1040 → 0 < length bs → length bs ≤ 64 → b ≡ take 1024 m →
+        and_then (run M (λ v. value_at b (places v)) (commands_of bs) []) only ≡ evaluated_in M places m bs
+    answer_is m b bs long some few e =
         let run_at : List V → Result V Refusal = λ l. and_then (run M (λ v. value_at l (places v)) (commands_of bs) []) only in
-        ap (λ q. and_then q only) h
-        ∙ ap run_at e
+        ap run_at e
         ∙ sym (ap (λ t. cond t (run_at (take 1024 m)) (Err (BadExpression 0))) (and_from _ _ (le-leb 1 (length bs) some) (le-leb (length bs) 64 few)))
         ∙ sym (ap (λ t. cond t (evaluated M (λ v. value_at (take 1024 m) (places v)) bs) (Err Memory)) (eq-eqb (length m) 1040 long))

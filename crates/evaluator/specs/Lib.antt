@@ -1,5 +1,6 @@
 pub mod Commands
 pub mod Evaluating
+pub mod Evaluations
 pub mod Outcomes
 pub mod Promises
 pub mod Rates

@@ -3,7 +3,7 @@ ghost use Rattle.std.specs.Prelude.{◌≡◌, ◌+◌, ◌<◌, ◌≤◌, [], 
 ghost use Rattle.arithmetic.specs.Meaning.{two, inverse};
 ghost use Rattle.evaluator.specs.Commands.{next_command, commands_of};
 ghost use Rattle.evaluator.specs.Evaluating.{stack_one, stack_found, operate_two, operate_one, only, value_at, taken, run, evaluated_in};
-ghost use Rattle.evaluator.specs.Outcomes.{leaving, leaving_with};
+ghost use Rattle.evaluator.specs.Outcomes.{and_then, leaving, leaving_with};
 ghost use Rattle.stack.specs.Stacks.{stacked, room, before_base};
 
 use crate::refusal::Refusal;
@@ -24,164 +24,133 @@ pub const DEEPEST: usize = 16;
 /// The most bytes of an expression.
 pub const LONGEST: usize = 64;
 
-// One value more for the command at a place.
-fn stack_value<T: Copy>(stack: &mut Stack<'_, T>, value: T, place: usize) -> Result<(), Refusal>
-    requires { room stack.old ≡ 16 }
-    ensures answer { leaving (stacked stack.new) result ≡ stack_one place value (stacked stack.old) }
-    ensures room { room stack.new ≡ room stack.old }
-    ensures before { before_base stack.new ≡ before_base stack.old }
-    ensures lender { stack.new.places.ghost_name ≡ stack.old.places.ghost_name }
-{
-    match stack.push(value) {
-        Ok(()) => Ok(()),
-        Err(_) => Err(Refusal::BadExpression(place)),
+// An expression's evaluation: the arithmetic and the scope that it goes by, and the stack of its values, with room for 16.
+// The stack is lent to it: of a stack that lies inside, the check does not know what it leaves in its memory.
+#[derive(Drop)]
+struct Evaluation<'a, 's, 'k, 'm, A: Arithmetic, S> {
+    arithmetic: &'a A,
+    scope: &'s S,
+    stack: &'k mut Stack<'m, A::Value>,
+    ghost sixteen: { room stack.now ≡ 16 },
+}
+
+impl<A: Arithmetic, S: Scope> Evaluation<'_, '_, '_, '_, A, S> {
+    ghost use Rattle.evaluator.specs.Evaluations.{SameSetting};
+
+    // One value more for the command at a place.
+    fn stack_value(&mut self, value: A::Value, place: usize) -> Result<(), Refusal>
+        ensures answer { leaving (stacked self.new.stack.now) result ≡ stack_one place value (stacked self.old.stack.now) }
+        ensures setting { SameSetting self.old self.new }
+    {
+        self.stack
+            .push(value)
+            .map_err(|_| Refusal::BadExpression(place))
     }
-}
 
-// What a variable holds, if it can be read.
-fn variable_value<T: Copy, S: Scope>(scope: &S, variable: u8, stack: &Stack<'_, T>) -> Option<T>
-    ensures { result ≡ value_at (before_base stack.now) (S.Scope.places scope.now variable) }
-{
-    let place = scope.place(variable)?;
-    stack.before_base(place)
-}
-
-// The value of a variable is stacked.
-fn stack_variable<T: Copy, S: Scope>(
-    scope: &S,
-    variable: u8,
-    place: usize,
-    stack: &mut Stack<'_, T>,
-) -> Result<(), Refusal>
-    requires { (room stack.old ≡ 16) × (length (stacked stack.old) < 16) }
-    ensures answer { leaving (stacked stack.new) result ≡ stack_found place (value_at (before_base stack.old) (S.Scope.places scope.now variable)) (stacked stack.old) }
-    ensures room { room stack.new ≡ room stack.old }
-    ensures before { before_base stack.new ≡ before_base stack.old }
-    ensures lender { stack.new.places.ghost_name ≡ stack.old.places.ghost_name }
-{
-    match variable_value(scope, variable, stack) {
-        Some(value) => stack_value(stack, value, place),
-        None => Err(Refusal::WrongVariable(place)),
+    // What a variable holds, if it can be read.
+    fn variable_value(&self, variable: u8) -> Option<A::Value>
+        ensures { result ≡ value_at (before_base self.now.stack.now) (S.Scope.places self.now.scope.now variable) }
+    {
+        self.stack.before_base(self.scope.place(variable)?)
     }
-}
 
-// An operator on the two values stacked last.
-fn operate_on_two<A: Arithmetic>(
-    arithmetic: &A,
-    operator: Operator,
-    place: usize,
-    stack: &mut Stack<'_, A::Value>,
-) -> Result<(), Refusal>
-    requires { room stack.old ≡ 16 }
-    ensures answer { leaving (stacked stack.new) result ≡ operate_two place (λ x y. (A.Arithmetic.meaning arithmetic.now).operated (two operator x y)) (stacked stack.old) }
-    ensures room { room stack.new ≡ room stack.old }
-    ensures before { before_base stack.new ≡ before_base stack.old }
-    ensures lender { stack.new.places.ghost_name ≡ stack.old.places.ghost_name }
-{
-    let Some(second) = stack.pop() else {
-        return Err(Refusal::BadExpression(place));
-    };
-    let Some(first) = stack.pop() else {
-        return Err(Refusal::BadExpression(place));
-    };
-    stack_value(stack, arithmetic.binary(operator, first, second), place)
-}
+    // The value of a variable is stacked.
+    fn stack_variable(&mut self, variable: u8, place: usize) -> Result<(), Refusal>
+        requires { length (stacked self.old.stack.now) < 16 }
+        ensures answer { leaving (stacked self.new.stack.now) result ≡ stack_found place (value_at (before_base self.old.stack.now) (S.Scope.places self.old.scope.now variable)) (stacked self.old.stack.now) }
+        ensures setting { SameSetting self.old self.new }
+    {
+        let value = self
+            .variable_value(variable)
+            .ok_or(Refusal::WrongVariable(place))?;
+        self.stack_value(value, place)
+    }
 
-// The operator `not` on the value stacked last.
-fn operate_on_one<A: Arithmetic>(
-    arithmetic: &A,
-    place: usize,
-    stack: &mut Stack<'_, A::Value>,
-) -> Result<(), Refusal>
-    requires { room stack.old ≡ 16 }
-    ensures answer { leaving (stacked stack.new) result ≡ operate_one place (λ x. (A.Arithmetic.meaning arithmetic.now).operated (inverse x)) (stacked stack.old) }
-    ensures room { room stack.new ≡ room stack.old }
-    ensures before { before_base stack.new ≡ before_base stack.old }
-    ensures lender { stack.new.places.ghost_name ≡ stack.old.places.ghost_name }
-{
-    let Some(value) = stack.pop() else {
-        return Err(Refusal::BadExpression(place));
-    };
-    stack_value(stack, arithmetic.inverted(value), place)
-}
+    // An operator on the two values stacked last.
+    fn operate_on_two(&mut self, operator: Operator, place: usize) -> Result<(), Refusal>
+        ensures answer { leaving (stacked self.new.stack.now) result ≡ operate_two place (λ x y. (A.Arithmetic.meaning self.old.arithmetic.now).operated (two operator x y)) (stacked self.old.stack.now) }
+        ensures setting { SameSetting self.old self.new }
+    {
+        let second = self.stack.pop().ok_or(Refusal::BadExpression(place))?;
+        let first = self.stack.pop().ok_or(Refusal::BadExpression(place))?;
+        self.stack_value(self.arithmetic.binary(operator, first, second), place)
+    }
 
-// The first command of the bytes left; answers the bytes after it.
-fn perform<'a, A: Arithmetic, S: Scope>(
-    arithmetic: &A,
-    scope: &S,
-    code: &'a [u8],
-    place: usize,
-    stack: &mut Stack<'_, A::Value>,
-) -> Result<&'a [u8], Refusal>
-    requires { room stack.old ≡ 16 }
-    ensures answer { leaving_with (stacked stack.new) result ≡ taken (A.Arithmetic.meaning arithmetic.now) (λ v. value_at (before_base stack.old) (S.Scope.places scope.now v)) place (next_command code.now) (stacked stack.old) }
-    ensures shorter { IfOk result (λ rest. length rest.now < length code.now) }
-    ensures room { room stack.new ≡ room stack.old }
-    ensures before { before_base stack.new ≡ before_base stack.old }
-    ensures lender { stack.new.places.ghost_name ≡ stack.old.places.ghost_name }
-{
-    let [command, rest @ ..] = code else {
-        return Err(Refusal::BadExpression(place));
-    };
-    let depth = stack.depth();
-    match *command {
-        0x40 if rest.len() >= 4 && depth < DEEPEST => {
-            let number = i32::from_le_bytes([rest[0], rest[1], rest[2], rest[3]]);
-            stack_value(stack, arithmetic.constant(number), place)?;
-            Ok(&rest[4..])
+    // The operator `not` on the value stacked last.
+    fn operate_on_one(&mut self, place: usize) -> Result<(), Refusal>
+        ensures answer { leaving (stacked self.new.stack.now) result ≡ operate_one place (λ x. (A.Arithmetic.meaning self.old.arithmetic.now).operated (inverse x)) (stacked self.old.stack.now) }
+        ensures setting { SameSetting self.old self.new }
+    {
+        let value = self.stack.pop().ok_or(Refusal::BadExpression(place))?;
+        self.stack_value(self.arithmetic.inverted(value), place)
+    }
+
+    // The first command of the bytes left; answers the bytes after it.
+    fn perform<'c>(&mut self, code: &'c [u8], place: usize) -> Result<&'c [u8], Refusal>
+        ensures answer { leaving_with (stacked self.new.stack.now) result ≡ taken (A.Arithmetic.meaning self.old.arithmetic.now) (λ v. value_at (before_base self.old.stack.now) (S.Scope.places self.old.scope.now v)) place (next_command code.now) (stacked self.old.stack.now) }
+        ensures shorter { IfOk result (λ rest. length rest.now < length code.now) }
+        ensures setting { SameSetting self.old self.new }
+    {
+        let depth = self.stack.depth();
+        match code {
+            [0x40, a, b, c, d, rest @ ..] if depth < DEEPEST => {
+                let number = i32::from_le_bytes([*a, *b, *c, *d]);
+                self.stack_value(self.arithmetic.constant(number), place)?;
+                Ok(rest)
+            }
+            [0x41, variable, rest @ ..] if depth < DEEPEST => {
+                self.stack_variable(*variable, place)?;
+                Ok(rest)
+            }
+            [command @ 0x42..=0x48, rest @ ..] if depth >= 2 => {
+                let operator = Operator::try_from(*command).map_err(|_| Refusal::BadExpression(
+                    place,
+                ))?;
+                self.operate_on_two(operator, place)?;
+                Ok(rest)
+            }
+            [0x49, rest @ ..] if depth >= 1 => {
+                self.operate_on_one(place)?;
+                Ok(rest)
+            }
+            _ => Err(Refusal::BadExpression(place)),
         }
-        0x41 if !rest.is_empty() && depth < DEEPEST => {
-            stack_variable(scope, rest[0], place, stack)?;
-            Ok(&rest[1..])
-        }
-        0x42..=0x48 if depth >= 2 => {
-            let Ok(operator) = Operator::try_from(*command) else {
-                return Err(Refusal::BadExpression(place));
-            };
-            operate_on_two(arithmetic, operator, place, stack)?;
-            Ok(rest)
-        }
-        0x49 if depth >= 1 => {
-            operate_on_one(arithmetic, place, stack)?;
-            Ok(rest)
-        }
-        _ => Err(Refusal::BadExpression(place)),
     }
-}
 
-// The one value that remains.
-fn remaining<T: Copy>(stack: &mut Stack<'_, T>) -> Result<T, Refusal>
-    ensures answer { result ≡ only (stacked stack.old) }
-    ensures before { before_base stack.new ≡ before_base stack.old }
-    ensures lender { stack.new.places.ghost_name ≡ stack.old.places.ghost_name }
-{
-    if stack.depth() != 1 {
-        return Err(Refusal::BadExpression(0));
+    // All commands in turn.
+    fn run(&mut self, code: &[u8]) -> Result<(), Refusal>
+        requires { stacked self.old.stack.now ≡ [] }
+        ensures answer { leaving (stacked self.new.stack.now) result ≡ run (A.Arithmetic.meaning self.old.arithmetic.now) (λ v. value_at (before_base self.old.stack.now) (S.Scope.places self.old.scope.now v)) (commands_of code.now) [] }
+        ensures setting { SameSetting self.old self.new }
+    {
+        let mut rest = code;
+        while !rest.is_empty() {
+            let place = code.len() - rest.len();
+            rest = self.perform(rest, place)?;
+        }
+        Ok(())
     }
-    match stack.pop() {
-        Some(value) => Ok(value),
-        None => Err(Refusal::BadExpression(0)),
-    }
-}
 
-// All commands in turn.
-fn run_commands<A: Arithmetic, S: Scope>(
-    arithmetic: &A,
-    scope: &S,
-    code: &[u8],
-    stack: &mut Stack<'_, A::Value>,
-) -> Result<(), Refusal>
-    requires { (room stack.old ≡ 16) × (stacked stack.old ≡ []) }
-    ensures answer { leaving (stacked stack.new) result ≡ run (A.Arithmetic.meaning arithmetic.now) (λ v. value_at (before_base stack.old) (S.Scope.places scope.now v)) (commands_of code.now) [] }
-    ensures before { before_base stack.new ≡ before_base stack.old }
-    ensures lender { stack.new.places.ghost_name ≡ stack.old.places.ghost_name }
-{
-    let mut rest = code;
-    while !rest.is_empty() {
-        let place = code.len() - rest.len();
-        rest = perform(arithmetic, scope, rest, place, stack)?;
+    // The one value that remains.
+    fn remaining(&mut self) -> Result<A::Value, Refusal>
+        ensures answer { result ≡ only (stacked self.old.stack.now) }
+        ensures setting { SameSetting self.old self.new }
+    {
+        if self.stack.depth() != 1 {
+            return Err(Refusal::BadExpression(0));
+        }
+        self.stack.pop().ok_or(Refusal::BadExpression(0))
     }
-    Ok(())
+
+    // The value of all commands.
+    fn value(&mut self, code: &[u8]) -> Result<A::Value, Refusal>
+        requires { stacked self.old.stack.now ≡ [] }
+        ensures answer { result ≡ and_then (run (A.Arithmetic.meaning self.old.arithmetic.now) (λ v. value_at (before_base self.old.stack.now) (S.Scope.places self.old.scope.now v)) (commands_of code.now) []) only }
+        ensures setting { SameSetting self.old self.new }
+    {
+        self.run(code)?;
+        self.remaining()
+    }
 }
 
 /// The value of an expression over a value memory of 1,040 places, or the first thing that is wrong with it.
@@ -202,6 +171,10 @@ pub fn evaluate<A: Arithmetic, S: Scope>(
         return Err(Refusal::BadExpression(0));
     }
     let mut stack = Stack::new(memory, VARIABLE_PLACES);
-    run_commands(arithmetic, scope, code, &mut stack)?;
-    remaining(&mut stack)
+    let mut evaluation = Evaluation {
+        arithmetic,
+        scope,
+        stack: &mut stack,
+    };
+    evaluation.value(code)
 }

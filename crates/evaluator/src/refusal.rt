@@ -12,6 +12,7 @@ pub enum Refusal {
 }
 
 impl Refusal {
+    // No `From` into a number, since the number loses the place and a `From` loses nothing.
     /// The number by which the outside world knows the refusal.
     pub fn number(self) -> u8
         ensures { result ≡ refusal_number self }
@@ -29,10 +30,8 @@ impl Refusal {
         ensures { result ≡ refusal_place self }
     {
         match self {
-            Refusal::BadExpression(place) => place,
-            Refusal::WrongVariable(place) => place,
-            Refusal::Memory => 0,
-            Refusal::Readings => 0,
+            Refusal::BadExpression(place) | Refusal::WrongVariable(place) => place,
+            Refusal::Memory | Refusal::Readings => 0,
         }
     }
 }

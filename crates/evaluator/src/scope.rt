@@ -22,10 +22,6 @@ impl Scope for FirstPlaces {
 
     fn place(&self, variable: u8) -> Option<usize> {
         let place = variable as usize;
-        if place < self.count {
-            Some(place)
-        } else {
-            None
-        }
+        (place < self.count).then_some(place)
     }
 }

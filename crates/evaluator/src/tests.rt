@@ -1,7 +1,7 @@
 //! Expressions good and bad, from tables; memories of other lengths.
 use crate::evaluation::evaluate;
 use crate::limits::Limits;
-use crate::rate::{plain_rate, traced_rate};
+use crate::rate::Formula;
 use crate::refusal::Refusal;
 use crate::scope::{FirstPlaces, Scope};
 use arithmetic::plain::Plain;
@@ -81,15 +81,19 @@ const SEVENTEENTH_UNKNOWN: [u8; 50] = [
     0x42, 0x42,
 ];
 
+fn formula(limits: Limits, code: &[u8]) -> Formula<'_> {
+    Formula { limits, code }
+}
+
 #[test]
 fn good_expressions(rt: HostRuntime) -> Result<(), Fail> {
     let Some(limits) = Limits::new(LOWEST, HIGHEST) else {
         return Err(Fail::new("no limits"));
     };
     for (code, number, mask) in GOOD {
-        assert!(rt; plain_rate(limits, code, &READINGS)? == number);
+        assert!(rt; Formula { limits, code }.plain_rate(&READINGS)? == number);
         assert_eq!(rt;
-            traced_rate(limits, code, &READINGS)?,
+            Formula { limits, code }.traced_rate(&READINGS)?,
             Traced { number, mask }
         );
     }
@@ -102,8 +106,14 @@ fn bad_expressions(rt: HostRuntime) -> Result<(), Fail> {
         return Err(Fail::new("no limits"));
     };
     for (code, refusal) in BAD {
-        assert_eq!(rt; plain_rate(limits, code, &READINGS), Err(refusal));
-        assert_eq!(rt; traced_rate(limits, code, &READINGS), Err(refusal));
+        assert_eq!(rt;
+            Formula { limits, code }.plain_rate(&READINGS),
+            Err(refusal)
+        );
+        assert_eq!(rt;
+            Formula { limits, code }.traced_rate(&READINGS),
+            Err(refusal)
+        );
     }
     Ok(())
 }
@@ -113,13 +123,16 @@ fn seventeen_values(rt: HostRuntime) -> Result<(), Fail> {
     let Some(limits) = Limits::new(LOWEST, HIGHEST) else {
         return Err(Fail::new("no limits"));
     };
-    assert_eq!(rt; plain_rate(limits, &SIXTEEN_VALUES, &READINGS), Ok(19200));
     assert_eq!(rt;
-        plain_rate(limits, &SEVENTEEN_VALUES, &READINGS),
+        formula(limits, &SIXTEEN_VALUES).plain_rate(&READINGS),
+        Ok(19200)
+    );
+    assert_eq!(rt;
+        formula(limits, &SEVENTEEN_VALUES).plain_rate(&READINGS),
         Err(Refusal::BadExpression(32))
     );
     assert_eq!(rt;
-        plain_rate(limits, &SEVENTEENTH_UNKNOWN, &READINGS),
+        formula(limits, &SEVENTEENTH_UNKNOWN).plain_rate(&READINGS),
         Err(Refusal::BadExpression(32))
     );
     Ok(())
@@ -133,9 +146,9 @@ fn sixty_five_bytes(rt: HostRuntime) -> Result<(), Fail> {
     let mut code = [0x49u8; 65];
     code[0] = 0x41;
     code[1] = 0;
-    assert_eq!(rt; plain_rate(limits, &code[0..64], &READINGS), Ok(1));
+    assert_eq!(rt; formula(limits, &code[0..64]).plain_rate(&READINGS), Ok(1));
     assert_eq!(rt;
-        plain_rate(limits, &code, &READINGS),
+        formula(limits, &code).plain_rate(&READINGS),
         Err(Refusal::BadExpression(0))
     );
     Ok(())
@@ -146,10 +159,10 @@ fn rates_are_limited(rt: HostRuntime) -> Result<(), Fail> {
     let Some(limits) = Limits::new(0, 1000) else {
         return Err(Fail::new("no limits"));
     };
-    assert_eq!(rt; plain_rate(limits, &[0x41, 0], &READINGS), Ok(1000));
-    assert_eq!(rt; plain_rate(limits, &[0x41, 2], &READINGS), Ok(0));
+    assert_eq!(rt; formula(limits, &[0x41, 0]).plain_rate(&READINGS), Ok(1000));
+    assert_eq!(rt; formula(limits, &[0x41, 2]).plain_rate(&READINGS), Ok(0));
     assert_eq!(rt;
-        traced_rate(limits, &[0x41, 0], &READINGS),
+        formula(limits, &[0x41, 0]).traced_rate(&READINGS),
         Ok(Traced {
             number: 1000,
             mask: 1,
@@ -166,9 +179,12 @@ fn too_many_readings(rt: HostRuntime) -> Result<(), Fail> {
         return Err(Fail::new("no limits"));
     };
     let readings = [5; 33];
-    assert_eq!(rt; plain_rate(limits, &[0x41, 31], &readings[0..32]), Ok(5));
     assert_eq!(rt;
-        plain_rate(limits, &[0x41, 31], &readings),
+        formula(limits, &[0x41, 31]).plain_rate(&readings[0..32]),
+        Ok(5)
+    );
+    assert_eq!(rt;
+        formula(limits, &[0x41, 31]).plain_rate(&readings),
         Err(Refusal::Readings)
     );
     Ok(())

@@ -3,18 +3,17 @@
 
 ghost use Rattle.std.specs.Prelude.{◌≡◌, ◌+◌, ◌-◌, ◌^◌, min};
 
-use console::answer::Answer;
 use console::problem::Problem;
 use console::session::Session;
-use std::io::{BufRead, BufReader};
+use std::io::{BufRead, BufReader, Read};
 use std::process::ExitCode;
 use std::{fmt, io};
 
 /// Why a job ends before its last line.
 #[derive(Drop)]
 enum Stop {
-    BadLine(u64, Problem),
-    UnreadLine(u64, io::Error),
+    BadLine(usize, Problem),
+    UnreadLine(usize, io::Error),
     UnwrittenAnswer(io::Error),
 }
 
@@ -34,39 +33,43 @@ impl From<io::Error> for Stop {
     }
 }
 
-// The number of the line after this one; the count stops at the highest number.
-fn following(line: u64) -> u64
-    ensures { result ≡ min (line + 1) (2 ^ 64 - 1) }
+// The number of the line with that many lines before it; the count stops at the highest number.
+fn line_number(lines_before: usize) -> usize
+    ensures { result ≡ min (lines_before + 1) (2 ^ 64 - 1) }
 {
-    line.saturating_add(1)
+    lines_before.saturating_add(1)
 }
 
 // Performs a line, and prints its answer if it has one.
-fn perform(rt: &HostRuntime, session: &mut Session, line: u64, text: &str) -> Result<(), Stop> {
-    match session.take_line(rt.alloc(), text) {
-        Ok(Answer::Nothing) => Ok(()),
-        Ok(answer) => Ok(println!(rt; "{answer}")?),
-        Err(problem) => Err(Stop::BadLine(line, problem)),
+fn perform(
+    rt: &(impl Print + AllocGlobal),
+    session: &mut Session,
+    line: usize,
+    text: &str,
+) -> Result<(), Stop> {
+    let answer = session
+        .take_line(rt.alloc(), text)
+        .map_err(|problem| Stop::BadLine(line, problem))?;
+    if let Some(answer) = answer {
+        println!(rt; "{answer}")?;
     }
+    Ok(())
 }
 
-// Performs all lines of standard input, up to the first bad one.
-fn run(rt: &HostRuntime) -> Result<(), Stop> {
+// Performs all lines of an input, up to the first bad one.
+fn run(rt: &(impl Print + AllocGlobal), input: impl Read + Drop) -> Result<(), Stop> {
     let mut session = Session::new();
-    let mut line = 0;
-    let input = BufReader::new(rt.alloc(), rt.stdin()).map_err(|error| Stop::UnreadLine(1, error))?;
-    for text in input.lines(rt.alloc()) {
-        line = following(line);
-        match text {
-            Ok(text) => perform(rt, &mut session, line, text.as_str())?,
-            Err(error) => return Err(Stop::UnreadLine(line, error)),
-        }
+    let input = BufReader::new(rt.alloc(), input).map_err(|error| Stop::UnreadLine(1, error))?;
+    for (lines_before, text) in input.lines(rt.alloc()).enumerate() {
+        let line = line_number(lines_before);
+        let text = text.map_err(|error| Stop::UnreadLine(line, error))?;
+        perform(rt, &mut session, line, text.as_str())?;
     }
     Ok(())
 }
 
 fn main(rt: HostRuntime) -> ExitCode {
-    match run(&rt) {
+    match run(&rt, rt.stdin()) {
         Ok(()) => ExitCode::SUCCESS,
         Err(stop) => {
             let _ = eprintln!(rt; "{stop}");

@@ -1,7 +1,11 @@
 -- Results in a row: what an accepted or refused row was made of.
-use Rattle.std.proofs.Common.{◌≡◌, ℕ, Bool, true, false, IsErrAnd, Some, Ok, Err, Option, Result, refl, ap, ◌∙◌, arith}
+use Rattle.std.proofs.Common.{◌≡◌, ℕ, Bool, true, false, IsErrAnd, Some, Ok, Err, Option, Result, sym, refl, ap, ◌∙◌, arith}
 use Rattle.evaluator.specs.Outcomes.{mapped}
 use Rattle.rules.specs.Outcomes.{◌>>=◌, ensure, from_some, refused_as}
+
+-- No answer is a refusal.
+pub not_both : {A E P : Type 0} {a : A} {g : E} → ◌≡◌ {A = Result A E} (Err g) (Ok a) → P
+not_both e = let z : ◌≡◌ {A = ℕ} 0 1 = cc in absurd (omega arith)
 
 module _ {A B E : Type 0} where
   -- A row whose first result is there goes on.
@@ -11,16 +15,16 @@ module _ {A B E : Type 0} where
   -- An accepted row had a first result.
   pub bind_inv : (r : Result A E) (f : A → Result B E) (b : B) → (r >>= f) ≡ Ok b → (a : A) × (r ≡ Ok a) × (f a ≡ Ok b)
   bind_inv (Ok a) f b e = (a, refl, e)
-  bind_inv (Err g) f b e = let z : ◌≡◌ {A = ℕ} 0 1 = cc in absurd (omega arith)
+  bind_inv (Err g) f b e = not_both e
 
   -- What an accepted image is the image of.
   pub mapped_ok : (f : A → B) (r : Result A E) (b : B) → Ok b ≡ mapped f r → (a : A) × (r ≡ Ok a) × (f a ≡ b)
   mapped_ok f (Ok a) b e = (a, refl, cc)
-  mapped_ok f (Err g) b e = let z : ◌≡◌ {A = ℕ} 0 1 = cc in absurd (omega arith)
+  mapped_ok f (Err g) b e = not_both (sym e)
 
   -- A refused image is the image of that refusal.
   pub mapped_err : (f : A → B) (r : Result A E) (g : E) → Err g ≡ mapped f r → r ≡ Err g
-  mapped_err f (Ok a) g e = let z : ◌≡◌ {A = ℕ} 0 1 = cc in absurd (omega arith)
+  mapped_err f (Ok a) g e = not_both e
   mapped_err f (Err h) g e = cc
 
   -- A refusal that `?` hands on.
@@ -42,7 +46,7 @@ module _ {E : Type 0} where
   -- After a test that held.
   pub ensure_then : {B : Type 0} (b : Bool) (g : E) (f : Unit {0} → Result B E) (y : B) → (ensure b g >>= f) ≡ Ok y → (b ≡ true) × (f tt ≡ Ok y)
   ensure_then true g f y e = (refl, e)
-  ensure_then false g f y e = let z : ◌≡◌ {A = ℕ} 0 1 = cc in absurd (omega arith)
+  ensure_then false g f y e = not_both e
 
 module _ {A E F : Type 0} where
   -- An upper layer keeps an answer.

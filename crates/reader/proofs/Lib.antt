@@ -3,8 +3,7 @@ pub mod Binding
 pub mod Commands
 pub mod Exits
 pub mod Extending
-pub mod Fronts
-pub mod Known
+pub mod Lefts
 pub mod Mains
 pub mod Sizes
 pub mod Turns

@@ -1,33 +1,46 @@
 -- Main's block, as the code reads it.
-use Rattle.std.proofs.Common.{◌≡◌, ℕ, ◌-◌, ◌≤◌, List, length, take, drop, Ok, Err, Result, sym, ap, ◌∙◌}
-use Rattle.std.proofs.lemmas.List.{take_rest}
-use Rattle.std.proofs.lemmas.Bool.{le-leb, and_from}
+use Rattle.std.proofs.Common.{◌≡◌, ℕ, Bool, true, false, ◌&&◌, leb, List, length, drop, Ok, Err, Result, sym, refl, ap, ◌∙◌}
 use Rattle.evaluator.specs.Outcomes.{mapped}
+use Rattle.rules.specs.Outcomes.{◌>>=◌, ensure}
 use Rattle.rules.specs.Reading.{Counts, start, read_block}
 use Rattle.rules.specs.Text.{Block}
 use Rattle.rules.specs.declared.faults.LoadFault.{LoadFault}
+use Rattle.rules.specs.declared.faults.LoadFault.TheVariants.{BadLength}
 use Rattle.rules.specs.declared.program.Variable.{Variable}
 use Rattle.reader.specs.declared.extents.Extent.{Extent}
 use Rattle.reader.specs.declared.counts.Counts.{Counts as Kept}
 use Rattle.reader.specs.Counting.{counted, kept}
+use Rattle.reader.specs.Readers.{from_place}
 use Rattle.reader.specs.Summaries.{main_in, summary}
 use Rattle.reader.specs.Told.{sum_block}
-use Rattle.reader.proofs.Binding.{bind_ok, ensure_ok, mapped_ok, mapped_err}
+use Rattle.reader.proofs.Binding.{mapped_ok, mapped_err}
 
-module _ (ds : List Variable) (k : ℕ) (bs : List ℕ) (few : length bs ≤ 4096) (within : k ≤ length bs) where
-  -- The block, with its bytes as the checker writes them.
-  abbrev from_place : Result (Block (Unit {0})) LoadFault
-  from_place = read_block ds 16 0 start (length bs) (take (length bs - k) (drop k bs))
+module _ (ds : List Variable) (k : ℕ) (bs : List ℕ) where
+  -- The block of the bytes before an end.
+  abbrev block_of : ℕ × List ℕ → Result (Block (Unit {0})) LoadFault
+  block_of q = read_block ds 16 0 start q.0 q.1
 
-  main_is : from_place ≡ main_in ds k bs
-  main_is =
-      ap (read_block ds 16 0 start (length bs)) (take_rest bs k)
-      ∙ sym (bind_ok _ _ tt (ensure_ok _ (and_from _ _ (le-leb (length bs) 4096 few) (le-leb k (length bs) within))) (λ i. read_block ds 16 0 start (length bs) (drop k bs)))
+  -- The block from what the reader finds.
+  abbrev block_from : Result (ℕ × List ℕ) LoadFault → Result (Block (Unit {0})) LoadFault
+  block_from r = r >>= block_of
 
-  pub main_read : (x : Extent) (b : Kept) → Ok (x, counted b) ≡ mapped (sum_block start) from_place → Ok (record { extent = x; counts = b }) ≡ mapped summary (main_in ds k bs)
-  main_read x b r =
-      let m = mapped_ok (sum_block start) from_place (x, counted b) r in
-      ap (λ (z : Extent × Counts). Ok (record { extent = z.0; counts = kept z.1 })) (sym m.2) ∙ ap (mapped summary) (sym m.1 ∙ main_is)
+  -- Main's block is that of the bytes from the place on, if there are such.
+  by_reader : block_from (from_place k bs) ≡ main_in ds k bs
+  by_reader = go (leb (length bs) 4096 && leb k (length bs)) where
+    go : (b : Bool) → block_from (ensure b BadLength >>= (λ _. Ok (length bs, drop k bs))) ≡ (ensure b BadLength >>= (λ _. block_of (length bs, drop k bs)))
+    go true = refl
+    go false = refl
 
-  pub main_stopped : (g : LoadFault) → Err g ≡ mapped (sum_block start) from_place → Err g ≡ mapped summary (main_in ds k bs)
-  main_stopped g r = ap (mapped summary) (sym (mapped_err (sum_block start) from_place g r) ∙ main_is)
+  module _ (e : ℕ) (l : List ℕ) (text : Ok (e, l) ≡ from_place k bs) (ds' : List Variable) (known : ds' ≡ ds) (a : Counts) (none : a ≡ start) where
+    main_is : mapped (sum_block a) (read_block ds' 16 0 a e l) ≡ mapped (sum_block start) (main_in ds k bs)
+    main_is =
+        (λ i. mapped (sum_block (none i)) (read_block (known i) 16 0 (none i) e l))
+        ∙ ap (mapped (sum_block start)) (ap block_from text ∙ by_reader)
+
+    pub main_read : (x : Extent) (b : Kept) → Ok (x, counted b) ≡ mapped (sum_block a) (read_block ds' 16 0 a e l) → Ok (record { extent = x; counts = b }) ≡ mapped summary (main_in ds k bs)
+    main_read x b r =
+        let m = mapped_ok (sum_block start) (main_in ds k bs) (x, counted b) (r ∙ main_is) in
+        ap (λ (z : Extent × Counts). Ok (record { extent = z.0; counts = kept z.1 })) (sym m.2) ∙ ap (mapped summary) (sym m.1)
+
+    pub main_stopped : (g : LoadFault) → Err g ≡ mapped (sum_block a) (read_block ds' 16 0 a e l) → Err g ≡ mapped summary (main_in ds k bs)
+    main_stopped g r = ap (mapped summary) (sym (mapped_err (sum_block start) (main_in ds k bs) g (r ∙ main_is)))

@@ -1,20 +1,15 @@
 -- How long the parts of a statement are, and where its expression stands.
 use Rattle.std.proofs.Common.{◌≡◌, ℕ, ◌+◌, ◌-◌, ◌<◌, ◌≤◌, Bool, true, false, cond, leb, List, [], ◌∷◌, length, take, drop, Ok, sym, refl, ap, ◌∙◌, subst, arith, length-drop, length-take}
-use Rattle.std.proofs.lemmas.Bool.{leb-true, ltb-true, and_parts}
+use Rattle.std.proofs.lemmas.Bool.{true≢false, false≢true, leb-true, ltb-true, and_parts}
 use Rattle.rules.specs.Forms.{has_byte, has_expression, has_block, has_second_block, par_count}
 use Rattle.rules.specs.Reading.{Parts, byte_in, part_in, code_in, length_in, parts_in, place_of_code, within_limits, Counts as Counted}
 use Rattle.rules.specs.declared.program.Form.{Form}
 use Rattle.reader.specs.declared.counts.Counts.{Counts}
 use Rattle.reader.specs.declared.heads.Head.{Head}
 use Rattle.reader.specs.Counting.{counted}
+use Rattle.reader.specs.Readers.{left_of}
 use Rattle.reader.specs.Seen.{Fine}
-use Rattle.reader.proofs.Binding.{bind_inv, ensure_then, same_ok}
-
-no_way : {P : Type 0} → true ≡ false → P
-no_way e = let z : ◌≡◌ {A = ℕ} 0 1 = cc in absurd (omega arith)
-
-no_way' : {P : Type 0} → false ≡ true → P
-no_way' e = let z : ◌≡◌ {A = ℕ} 0 1 = cc in absurd (omega arith)
+use Rattle.reader.proofs.Binding.{not_both, bind_inv, ensure_then, same_ok}
 
 module _ (p : ℕ) where
   -- A part and what follows it make up the bytes.
@@ -34,21 +29,21 @@ module _ (p : ℕ) where
   byte_long w bs q e = go w bs e where
     go : (w : Bool) (bs : List ℕ) → byte_in p w bs ≡ Ok q → (length q.1 ≤ length bs) × (q.1 ≡ drop (cond w 1 0) bs)
     go false bs e = let P : ℕ × List ℕ → Type 0 = λ q. (length q.1 ≤ length bs) × (q.1 ≡ bs) in subst P (same_ok e) (omega arith, refl)
-    go true [] e = let z : ◌≡◌ {A = ℕ} 0 1 = cc in absurd (omega arith)
+    go true [] e = not_both e
     go true (b ∷ bs) e = let P : ℕ × List ℕ → Type 0 = λ q. (length q.1 ≤ length (b ∷ bs)) × (q.1 ≡ bs) in subst P (same_ok e) (omega arith, refl)
 
   code_long : (w : Bool) (bs : List ℕ) (q : List ℕ × List ℕ) → code_in p w bs ≡ Ok q → (length q.0 + length q.1 ≤ length bs) × (w ≡ true → q.0 ≡ take (length q.0) (drop 1 bs))
   code_long false bs q e =
       let P : List ℕ × List ℕ → Type 0 = λ q. (length q.0 + length q.1 ≤ length bs) × (false ≡ true → q.0 ≡ take (length q.0) (drop 1 bs)) in
-      subst P (same_ok e) (omega arith, no_way')
-  code_long true [] q e = let z : ◌≡◌ {A = ℕ} 0 1 = cc in absurd (omega arith)
+      subst P (same_ok e) (omega arith, λ h. absurd (false≢true h))
+  code_long true [] q e = not_both e
   code_long true (n ∷ bs) q e = let h = part_long n bs q e in let all = h.all in (omega arith, λ _. h.front ∙ ap (λ m. take m bs) (sym h.long))
 
   length_long : (w : Bool) (bs : List ℕ) (q : ℕ × List ℕ) → length_in p w bs ≡ Ok q → (length q.1 ≤ length bs) × (w ≡ false → q.0 ≡ 0)
   length_long false bs q e = let P : ℕ × List ℕ → Type 0 = λ q. (length q.1 ≤ length bs) × (false ≡ false → q.0 ≡ 0) in subst P (same_ok e) (omega arith, λ _. refl)
-  length_long true [] q e = let z : ◌≡◌ {A = ℕ} 0 1 = cc in absurd (omega arith)
-  length_long true (a ∷ []) q e = let z : ◌≡◌ {A = ℕ} 0 1 = cc in absurd (omega arith)
-  length_long true (a ∷ b ∷ bs) q e = let P : ℕ × List ℕ → Type 0 = λ q. (length q.1 ≤ length (a ∷ b ∷ bs)) × (true ≡ false → q.0 ≡ 0) in subst P (same_ok e) (omega arith, no_way)
+  length_long true [] q e = not_both e
+  length_long true (a ∷ []) q e = not_both e
+  length_long true (a ∷ b ∷ bs) q e = let P : ℕ × List ℕ → Type 0 = λ q. (length q.1 ≤ length (a ∷ b ∷ bs)) × (true ≡ false → q.0 ≡ 0) in subst P (same_ok e) (omega arith, λ h. absurd (true≢false h))
 
   none : (xs : List ℕ) → length xs ≡ 0 → xs ≡ []
   none [] h = refl
@@ -92,16 +87,16 @@ limits_from : (n : ℕ) (k : Form) (a : Counted) → within_limits n k a ≡ tru
 limits_from n k a e = let u = and_parts _ _ e in (ltb-true _ _ u.0, leb-true _ _ (and_parts _ _ u.1).0)
 
 -- An accepted head is within the limits, and its parts are parts of the bytes.
-pub fine_head : (bs : List ℕ) (n p : ℕ) (a : Counts) (h : Head) (o : Parts) → true ≡ within_limits n h.form (counted a) → Ok o ≡ parts_in p h.form bs → h.code.now ≡ o.code → h.first.now ≡ o.first → h.second.now ≡ o.second → h.after.now ≡ o.after → Fine bs a h
-fine_head bs n p a h o ok e c f s r =
-    let z = sized p h.form bs o e in
+pub fine_head : (bs left : List ℕ) (n p : ℕ) (a : Counts) (h : Head) → true ≡ within_limits n h.form (counted a) → Ok (record { byte = h.byte; code = h.code.now; first = left_of h.first; second = left_of h.second; after = left }) ≡ parts_in p h.form bs → Fine bs left a h
+fine_head bs left n p a h ok e =
+    let z = sized p h.form bs _ e in
     let m = limits_from n h.form (counted a) (sym ok) in
-    let all = z.all in let lf = ap length f in let ls = ap length s in let lr = ap length r in
+    let all = z.all in
     record {
       short = omega arith;
       few = m.0;
       few_pars = m.1;
-      no_first = λ y. f ∙ z.no_first y;
-      no_second = λ y. s ∙ z.no_second y;
-      code_part = λ y. subst (λ (l : List ℕ). l ≡ take (length l) (drop (place_of_code h.form 0 - 1) bs)) (sym c) (z.code_part y);
+      no_first = z.no_first;
+      no_second = z.no_second;
+      code_part = z.code_part;
     }

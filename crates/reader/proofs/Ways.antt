@@ -8,9 +8,15 @@ use Rattle.rules.specs.Text.{Expression, Stmt, Block, end, count, pars, count_of
 use Rattle.rules.specs.declared.faults.LoadFault.{LoadFault}
 use Rattle.rules.specs.declared.program.Form.{Form}
 use Rattle.rules.specs.declared.program.Variable.{Variable}
+use Rattle.reader.specs.declared.checker.Checker.{Checker}
 use Rattle.reader.specs.declared.extents.Extent.{Extent}
+use Rattle.reader.specs.declared.reader.Reader.{Reader}
+use Rattle.reader.specs.declared.scope.Scope.{Scope}
+use Rattle.reader.specs.Counting.{counted}
+use Rattle.reader.specs.declared.heads.Head.{Head}
 use Rattle.reader.specs.Extents.{built}
-use Rattle.reader.specs.Seen.{Seen, seen_head}
+use Rattle.reader.specs.Readers.{left_of, end_of, InTurn}
+use Rattle.reader.specs.Seen.{Seen, seen, seen_head}
 use Rattle.reader.specs.Told.{after_block, head_at, sum_block, sum_statement}
 use Rattle.reader.proofs.Binding.{bind_ok, mapped_ok, mapped_err, same_ok}
 use Rattle.reader.proofs.Extending.{builds}
@@ -19,12 +25,6 @@ use Rattle.reader.proofs.Extending.{builds}
 read_empty : (ds : List Variable) (n t : ℕ) (a : Counts) (e : ℕ) (bs : List ℕ) → bs ≡ [] → read_block ds n t a e bs ≡ Ok end
 read_empty ds zero t a e bs h = refl
 read_empty ds (suc n) t a e bs h = ap (read_block ds (suc n) t a e) h
-
-pub shut : (ds : List Variable) (n t : ℕ) (a : Counts) (e : ℕ) (bs : List ℕ) → n ≡ 0 → Ok (record { length = 0; pauses = false }, a) ≡ mapped (sum_block a) (read_block ds n t a e bs)
-shut ds zero t a e bs h =
-    let s : a.statements ≡ a.statements + 0 = omega arith in let p : a.pars ≡ a.pars + 0 = omega arith in let u : a.threads ≡ a.threads + 2 * 0 = omega arith in
-    λ i. Ok (record { length = 0; pauses = false }, record { statements = s i; pars = p i; threads = u i })
-shut ds (suc n) t a e bs h = absurd (omega arith)
 
 -- The counts after a statement are those after its second block; blocks that it does not have are empty.
 module _ (o : ℕ) (x : Expression) (X Y : Block (Unit {0})) (a : Counts) where
@@ -51,7 +51,26 @@ module _ (o : ℕ) (x : Expression) (X Y : Block (Unit {0})) (a : Counts) where
   counts_built Form.Par f g = counts_from Form.Par (omega arith) (omega arith)
   counts_built Form.Abort f g = one Form.Abort refl (omega arith) (g refl)
 
-module _ (ds : List Variable) (n t : ℕ) (a : Counts) (e c : ℕ) (bs : List ℕ) where
+-- The statement that begins with c, in the scope s, where the reader B has left what follows the command.
+module _ (C : Checker) (s : Scope) (B : Reader) (c : ℕ) where
+  abbrev ds : List Variable
+  ds = C.variables.now
+
+  abbrev n : ℕ
+  n = s.nesting
+
+  abbrev t : ℕ
+  t = s.thread
+
+  abbrev a : Counts
+  a = counted C.counts
+
+  abbrev e : ℕ
+  e = end_of B
+
+  abbrev bs : List ℕ
+  bs = left_of B
+
   -- The summary of the statement, and its head as it is seen.
   abbrev summary : Result (Extent × Counts × List ℕ) LoadFault
   summary = mapped (sum_statement a) (read_statement ds n (read_block ds n) t a e c bs)
@@ -81,10 +100,16 @@ module _ (ds : List Variable) (n t : ℕ) (a : Counts) (e c : ℕ) (bs : List �
   abbrev between : ℕ → Counts → Counts
   between w b = record { statements = b.statements; pars = b.pars; threads = b.threads + w }
 
-  module _ (q : Seen) (w t₁ : ℕ) (h : Ok q ≡ head_seen) (w_is : w ≡ par_count q.form) (t_is : t₁ ≡ block_thread q.form t (a.threads + w)) where
+  module _ (A : Reader) (o : Head) (w t₁ : ℕ) (h : Ok (seen (left_of A) o) ≡ head_seen) (turn : InTurn e (left_of A) o.first o.second) (w_is : w ≡ par_count o.form) (t_is : t₁ ≡ block_thread o.form t (a.threads + w)) where
+    abbrev q : Seen
+    q = seen (left_of A) o
+
+    first_end : o.first.end ≡ e - length q.after - length q.second
+    first_end = turn.first_end ∙ ap (λ k. k - length q.second) turn.second_end
+
     -- The first block, as the code reads it and as the rules do.
     abbrev first_code : Result (Block (Unit {0})) LoadFault
-    first_code = read_block ds n t₁ (begun w) (e - length q.after - length q.second) q.first
+    first_code = read_block ds n t₁ (begun w) o.first.end q.first
 
     abbrev first_rule : Result (Block (Unit {0})) LoadFault
     first_rule = read_block ds n (block_thread q.form t (before_first q.form a).threads) (before_first q.form a) (e - length q.after - length q.second) q.first
@@ -92,14 +117,17 @@ module _ (ds : List Variable) (n t : ℕ) (a : Counts) (e c : ℕ) (bs : List �
     first_same : mapped (sum_block (begun w)) first_code ≡ mapped (sum_block (before_first q.form a)) first_rule
     first_same =
         let own = t_is ∙ ap (λ v. block_thread q.form t (a.threads + v)) w_is in
-        λ i. mapped (sum_block (begun (w_is i))) (read_block ds n (own i) (begun (w_is i)) (e - length q.after - length q.second) q.first)
+        λ i. mapped (sum_block (begun (w_is i))) (read_block ds n (own i) (begun (w_is i)) (first_end i) q.first)
 
     pub first_stopped : (g : LoadFault) → Err g ≡ mapped (sum_block (begun w)) first_code → Err g ≡ summary
     first_stopped g r =
         let k = by_blocks q h in
         sym (ap (mapped (sum_statement a)) (k.1 ∙ ap (λ X. X >>= (λ X. read_block ds n (block_thread q.form t (before_second q.form X a).threads) (before_second q.form X a) (e - length q.after) q.second >>= (λ Y. Ok (build q.form q.byte k.0 X Y, q.after)))) (mapped_err (sum_block (before_first q.form a)) first_rule g (r ∙ first_same))))
 
-    module _ (x : Extent) (b : Counts) (r : Ok (x, b) ≡ mapped (sum_block (begun w)) first_code) where
+    module _ (x : Extent) (D : Checker) (s' : Scope) (r : Ok (x, counted D.counts) ≡ mapped (sum_block (begun w)) first_code) (known : D.variables.now ≡ ds) (same : s' ≡ s) where
+      abbrev b : Counts
+      b = counted D.counts
+
       first_there : (X : Block (Unit {0})) × (first_rule ≡ Ok X) × (sum_block (before_first q.form a) X ≡ (x, b))
       first_there = mapped_ok (sum_block (before_first q.form a)) first_rule (x, b) (r ∙ first_same)
 
@@ -113,10 +141,10 @@ module _ (ds : List Variable) (n t : ℕ) (a : Counts) (e c : ℕ) (bs : List �
       between_is : between w b ≡ before_second q.form X a
       between_is = λ i. between (w_is i) (counts_there i)
 
-      module _ (m t₂ : ℕ) (m_is : m ≡ n) (u_is : t₂ ≡ block_thread q.form t (b.threads + w)) where
+      module _ (t₂ : ℕ) (u_is : t₂ ≡ block_thread q.form t (b.threads + w)) where
         -- The second block, as the code reads it and as the rules do.
         abbrev second_code : Result (Block (Unit {0})) LoadFault
-        second_code = read_block ds m t₂ (between w b) (e - length q.after) q.second
+        second_code = read_block D.variables.now s'.nesting t₂ (between w b) o.second.end q.second
 
         abbrev second_rule : Result (Block (Unit {0})) LoadFault
         second_rule = read_block ds n (block_thread q.form t (before_second q.form X a).threads) (before_second q.form X a) (e - length q.after) q.second
@@ -124,7 +152,7 @@ module _ (ds : List Variable) (n t : ℕ) (a : Counts) (e c : ℕ) (bs : List �
         second_same : mapped (sum_block (between w b)) second_code ≡ mapped (sum_block (before_second q.form X a)) second_rule
         second_same =
             let own = u_is ∙ ap (λ (z : Counts). block_thread q.form t z.threads) between_is in
-            λ i. mapped (sum_block (between_is i)) (read_block ds (m_is i) (own i) (between_is i) (e - length q.after) q.second)
+            λ i. mapped (sum_block (between_is i)) (read_block (known i) (same i).nesting (own i) (between_is i) (turn.second_end i) q.second)
 
         by_second : (z : Result (Stmt (Unit {0}) × List ℕ) LoadFault) → ((x : Expression) → (second_rule >>= (λ Y. Ok (build q.form q.byte x X Y, q.after))) ≡ z) → read_statement ds n (read_block ds n) t a e c bs ≡ z
         by_second z f = let k = by_blocks q h in k.1 ∙ bind_ok first_rule _ X first_there.1 (f k.0)
@@ -133,8 +161,8 @@ module _ (ds : List Variable) (n t : ℕ) (a : Counts) (e c : ℕ) (bs : List �
         second_stopped g s =
             sym (ap (mapped (sum_statement a)) (by_second (Err g) (λ x. ap (λ r. r >>= (λ Y. Ok (build q.form q.byte x X Y, q.after))) (mapped_err (sum_block (before_second q.form X a)) second_rule g (s ∙ second_same)))))
 
-        pub both_read : (y : Extent) (d : Counts) → (has_block q.form ≡ false → q.first ≡ []) → (has_second_block q.form ≡ false → q.second ≡ []) → Ok (y, d) ≡ mapped (sum_block (between w b)) second_code → Ok (built q.form q.byte x y, d, q.after) ≡ summary
-        both_read y d no_first no_second s =
+        pub both_read : (y z : Extent) (d : Counts) → z ≡ built q.form q.byte x y → (has_block q.form ≡ false → q.first ≡ []) → (has_second_block q.form ≡ false → q.second ≡ []) → Ok (y, d) ≡ mapped (sum_block (between w b)) second_code → Ok (z, d, q.after) ≡ summary
+        both_read y z d is no_first no_second s =
             let k = by_blocks q h in
             let v = mapped_ok (sum_block (before_second q.form X a)) second_rule (y, d) (s ∙ second_same) in
             let x_is = ap (λ (z : Extent × Counts). z.0) first_there.2 in
@@ -142,6 +170,7 @@ module _ (ds : List Variable) (n t : ℕ) (a : Counts) (e c : ℕ) (bs : List �
             let d_is = ap (λ (z : Extent × Counts). z.1) v.2 in
             let no_X : has_block q.form ≡ false → X ≡ end = λ none. same_ok (sym first_there.1 ∙ read_empty ds n _ _ _ q.first (no_first none)) in
             let no_Y : has_second_block q.form ≡ false → v.0 ≡ end = λ none. same_ok (sym v.1 ∙ read_empty ds n _ _ _ q.second (no_second none)) in
-            (λ i. Ok (built q.form q.byte (sym x_is i) (sym y_is i), sym d_is i, q.after))
+            (λ i. Ok (is i, d, q.after))
+            ∙ (λ i. Ok (built q.form q.byte (sym x_is i) (sym y_is i), sym d_is i, q.after))
             ∙ (λ i. Ok (builds q.form q.byte k.0 X v.0 i, counts_built q.byte k.0 X v.0 a q.form no_X no_Y i, q.after))
             ∙ ap (mapped (sum_statement a)) (sym (k.1 ∙ bind_ok first_rule _ X first_there.1 (bind_ok second_rule _ v.0 v.1 refl)))

@@ -2,6 +2,7 @@
 pub mod Counting
 pub mod Extents
 pub mod Pieces
+pub mod Readers
 pub mod Seen
 pub mod Steps
 pub mod Summaries

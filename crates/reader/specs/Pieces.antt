@@ -2,15 +2,12 @@
 use Rattle.std.specs.Prelude.{ℕ, List}
 use Rattle.std.specs.Borrow.{Bor}
 use Rattle.rules.specs.Reading.{Parts as Parted}
+use Rattle.reader.specs.Readers.{left_of}
 use Rattle.reader.specs.declared.parts.Parts.{Parts}
 
--- The parts that slices point to.
-abbrev pub pieces : Parts → Parted
-pieces p = record { byte = p.byte; code = p.code.now; first = p.first.now; second = p.second.now; after = p.after.now }
-
--- A part and what follows it.
-abbrev pub two_parts : Bor (List ℕ) × Bor (List ℕ) → List ℕ × List ℕ
-two_parts p = (p.0.now, p.1.now)
+-- The parts that the code points to, with the bytes left after them.
+abbrev pub pieces : List ℕ → Parts → Parted
+pieces l p = record { byte = p.byte; code = p.code.now; first = left_of p.first; second = left_of p.second; after = l }
 
 -- A number and what follows it.
 abbrev pub number_rest : ℕ × Bor (List ℕ) → ℕ × List ℕ

@@ -3,6 +3,7 @@ use Rattle.std.specs.Prelude.{◌≡◌, ℕ, ◌+◌, ◌-◌, ◌<◌, ◌≤�
 use Rattle.rules.specs.Forms.{has_expression, has_block, has_second_block, par_count}
 use Rattle.rules.specs.Reading.{place_of_code, Head as Headed}
 use Rattle.rules.specs.declared.program.Form.{Form}
+use Rattle.reader.specs.Readers.{left_of}
 use Rattle.reader.specs.declared.counts.Counts.{Counts}
 use Rattle.reader.specs.declared.heads.Head.{Head}
 
@@ -16,19 +17,19 @@ pub record Seen : Type 0 where
   pub second : List ℕ
   pub after : List ℕ
 
--- The head that slices point to.
-abbrev pub seen : Head → Seen
-seen h = record { form = h.form; byte = h.byte; code = h.code.now; code_from = h.code_place; first = h.first.now; second = h.second.now; after = h.after.now }
+-- The head that the code points to, with the bytes left after it.
+abbrev pub seen : List ℕ → Head → Seen
+seen l h = record { form = h.form; byte = h.byte; code = h.code.now; code_from = h.code_place; first = left_of h.first; second = left_of h.second; after = l }
 
 -- The head of the rules, of a statement at place p.
 abbrev pub seen_head : (p : ℕ) → Headed → Seen
 seen_head p h = record { form = h.form; byte = h.parts.byte; code = h.parts.code; code_from = place_of_code h.form p; first = h.parts.first; second = h.parts.second; after = h.parts.after }
 
--- What an accepted head says of the limits, and of its parts in the bytes that follow its command.
-pub record Fine (rest : List ℕ) (a : Counts) (h : Head) : Type 0 where
-  pub short : length h.first.now + length h.second.now + length h.after.now ≤ length rest
+-- What an accepted head says of the limits, and of its parts in the bytes `rest` that follow its command, with the bytes `left` after it.
+pub record Fine (rest left : List ℕ) (a : Counts) (h : Head) : Type 0 where
+  pub short : length (left_of h.first) + length (left_of h.second) + length left ≤ length rest
   pub few : a.statements < 512
   pub few_pars : a.pars + par_count h.form ≤ 15
-  pub no_first : has_block h.form ≡ false → h.first.now ≡ []
-  pub no_second : has_second_block h.form ≡ false → h.second.now ≡ []
+  pub no_first : has_block h.form ≡ false → left_of h.first ≡ []
+  pub no_second : has_second_block h.form ≡ false → left_of h.second ≡ []
   pub code_part : has_expression h.form ≡ true → h.code.now ≡ take (length h.code.now) (drop (place_of_code h.form 0 - 1) rest)

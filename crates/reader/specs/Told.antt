@@ -1,6 +1,5 @@
 -- What the readers of statements and blocks answer, as a summary of what reading gives.
 use Rattle.std.specs.Prelude.{ℕ, suc, ◌+◌, ◌-◌, List, length, Ok, Err, Result}
-use Rattle.std.specs.Borrow.{Bor}
 use Rattle.rules.specs.Outcomes.{refused_as}
 use Rattle.rules.specs.Reading.{Counts as Counted, Head as Headed, read_head, after_statement}
 use Rattle.rules.specs.Text.{Stmt, Block, count, pars, arms}
@@ -13,10 +12,10 @@ use Rattle.reader.specs.declared.heads.Head.{Head}
 use Rattle.reader.specs.Extents.{extent, extent_of}
 use Rattle.reader.specs.Seen.{Seen, seen}
 
--- A head, or the fault of the program that a sited fault is.
-abbrev pub told_head : Result Head SitedFault → Result Seen LoadFault
-told_head (Ok h) = Ok (seen h)
-told_head (Err f) = Err (Statement f.fault f.site)
+-- A head with the bytes left after it, or the fault of the program that a sited fault is.
+abbrev pub told_head : List ℕ → Result Head SitedFault → Result Seen LoadFault
+told_head l (Ok h) = Ok (seen l h)
+told_head l (Err f) = Err (Statement f.fault f.site)
 
 -- The head of a statement in a block that ends at `end`, as reading a statement begins.
 abbrev pub head_at : List Variable → (n t : ℕ) → Counted → (end c : ℕ) → List ℕ → Result Headed LoadFault
@@ -30,9 +29,9 @@ after_block B a = record { statements = a.statements + count B; pars = a.pars + 
 abbrev pub with_counts : Counted → Extent → Extent × Counted
 with_counts a x = (x, a)
 
--- A statement's extent with the counts that it leaves, and the bytes after it.
-abbrev pub with_counts_and_rest : Counted → Extent × Bor (List ℕ) → Extent × Counted × List ℕ
-with_counts_and_rest a p = (p.0, a, p.1.now)
+-- A statement's extent with the counts that it leaves, and the bytes left after it.
+abbrev pub with_counts_and_left : Counted → List ℕ → Extent → Extent × Counted × List ℕ
+with_counts_and_left a l x = (x, a, l)
 
 -- The summary of a block that was read: its extent, and the counts after it.
 abbrev pub sum_block : Counted → Block (Unit {0}) → Extent × Counted

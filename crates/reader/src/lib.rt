@@ -1,14 +1,15 @@
 //! Reads the statements of a program and checks them.
 #![tactic(auto)]
 
-pub mod blocks;
+mod blocks;
+mod checker;
 pub mod counts;
-pub mod expression;
+mod expression;
 pub mod extents;
 pub mod faults;
 pub mod forms;
 pub mod heads;
 pub mod parts;
 pub mod program;
+pub mod reader;
 pub mod scope;
-pub mod variables;

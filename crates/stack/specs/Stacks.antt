@@ -1,5 +1,5 @@
 -- What a stack over lent places holds.
-use Rattle.std.specs.Prelude.{ℕ, ◌-◌, List, [], ◌∷◌, reverse, length, take, drop, Some, None, Option}
+use Rattle.std.specs.Prelude.{◌≡◌, ℕ, ◌-◌, List, [], ◌∷◌, reverse, length, take, drop, Some, None, Option}
 use Rattle.std.specs.List.{slice_get}
 use Rattle.stack.specs.declared.Stack.{Stack}
 
@@ -19,6 +19,12 @@ module _ {T : Type 0} where
   -- What one of them holds.
   abbrev pub place_before : Stack T → ℕ → Option T
   place_before s i = slice_get (before_base s) i
+
+  -- Both stacks lie on the same places: as many values can be stacked, the places before the base hold the same, and they are lent by the same lender.
+  pub record SamePlaces (old new : Stack T) : Type 0 where
+    pub as_many : room new ≡ room old
+    pub before : before_base new ≡ before_base old
+    pub lender : new.places.ghost_name ≡ old.places.ghost_name
 
 -- A pop takes the value that was pushed last.
 abbrev pub popped_value : {T : Type 0} → List T → Option T

@@ -1,6 +1,6 @@
 //! Making a stack, and pushing and popping values.
 ghost use Rattle.std.specs.Prelude.{◌≡◌, ◌+◌, ◌-◌, ◌<◌, [], ◌∷◌, length, take, is_ok, if◌then◌else◌, nat_lt, slice_index_or, slice_set};
-ghost use Rattle.stack.specs.Stacks.{stacked, room, before_base, popped_value, popped_rest, place_before};
+ghost use Rattle.stack.specs.Stacks.{stacked, room, before_base, popped_value, popped_rest, place_before, SamePlaces};
 
 use crate::Stack;
 
@@ -37,9 +37,7 @@ impl<'a, T: Copy> Stack<'a, T> {
         ensures answer { is_ok result ≡ nat_lt (length (stacked self.old)) (room self.old) }
         ensures stacked { stacked self.new ≡ (if is_ok result then value ∷ stacked self.old else stacked self.old) }
         ensures memory { self.new.places.now ≡ (if is_ok result then slice_set self.old.places.now (self.old.base + self.old.depth) value else self.old.places.now) }
-        ensures room { room self.new ≡ room self.old }
-        ensures before { before_base self.new ≡ before_base self.old }
-        ensures lender { self.new.places.ghost_name ≡ self.old.places.ghost_name }
+        ensures places { SamePlaces self.old self.new }
     {
         let end = self.base + self.depth;
         if end >= self.places.len() {
@@ -55,35 +53,17 @@ impl<'a, T: Copy> Stack<'a, T> {
         ensures answer { result ≡ popped_value (stacked self.old) }
         ensures stacked { stacked self.new ≡ popped_rest (stacked self.old) }
         ensures memory { self.new.places.now ≡ self.old.places.now }
-        ensures room { room self.new ≡ room self.old }
-        ensures before { before_base self.new ≡ before_base self.old }
-        ensures lender { self.new.places.ghost_name ≡ self.old.places.ghost_name }
+        ensures places { SamePlaces self.old self.new }
     {
-        if self.depth == 0 {
-            return None;
-        }
-        let last = self.base + self.depth - 1;
-        let value = self.at(last);
-        self.depth -= 1;
-        Some(value)
-    }
-
-    // What a place holds.
-    fn at(&self, place: usize) -> T
-        requires { place < length self.now.places.now }
-        ensures { result ≡ slice_index_or self.now.places.now place result }
-    {
-        let places = &*self.places;
-        places[place]
+        let last = self.depth.checked_sub(1)?;
+        self.depth = last;
+        Some(self.places[self.base + last])
     }
 
     /// The value of a place before the base, if there is such a place.
     pub fn before_base(&self, place: usize) -> Option<T>
         ensures { result ≡ place_before self.now place }
     {
-        if place >= self.base {
-            return None;
-        }
-        Some(self.at(place))
+        self.places[..self.base].get(place).copied()
     }
 }

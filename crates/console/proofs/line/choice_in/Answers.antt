@@ -1,21 +1,13 @@
-use Rattle.std.proofs.Common.{◌<◌, ◌≤◌, length, sym, ap, ◌∙◌, rules}
-use Rattle.console.proofs.Naming.{no_items, one_item, two_names}
-use Rattle.console.specs.Lines.{choice_in}
+use Rattle.std.proofs.Common.{◌≡◌, ℕ, ◌≤◌, List, [], ◌∷◌, length, Err, sym, refl, arith, Bor}
+use Rattle.console.specs.Choices.{choice_in}
 use Rattle.console.specs.Splitting.{texts}
+use Rattle.console.specs.declared.problem.Problem.TheVariants.{ExtraWord}
 use Rattle.console.proofs.line.choice_in.Goals as goal
 
-pub returns-in-empty : goal.returns-in-empty
-returns-in-empty c =
-    let none : length c.args.words.now < 1 = search rules in
-    ap (λ ws. choice_in (texts ws)) (sym (no_items c.args.words.now none))
-
-pub returns-in-len1 : goal.returns-in-len1
-returns-in-len1 c =
-    let some : 1 ≤ length c.args.words.now = search rules in
-    let few : length c.args.words.now < 2 = search rules in
-    c.choice_named.ensures ∙ sym (ap (λ ws. choice_in (texts ws)) (one_item c.args.words.now _ some few))
+two_names : (ws : List (Bor (List ℕ))) → 2 ≤ length ws → choice_in (texts ws) ≡ Err ExtraWord
+two_names [] h = absurd (omega arith)
+two_names (w ∷ []) h = absurd (omega arith)
+two_names (w ∷ v ∷ ws) h = refl
 
 pub returns-in_default : goal.returns-in_default
-returns-in_default c =
-    let more : 2 ≤ length c.args.words.now = search rules in
-    sym (two_names c.args.words.now more)
+returns-in_default c = sym (two_names c.args.words.now c.in_default.len_at_least)

@@ -1,12 +1,13 @@
-use Rattle.std.proofs.Common.{sym}
-use Rattle.std.proofs.lemmas.Bool.{eqb-true, eqb-false}
-use Rattle.console.proofs.Naming.{alone, not_alone}
-use Rattle.console.specs.Lines.{said}
+use Rattle.std.proofs.Common.{◌≡◌, ℕ, List, [], ◌∷◌, length, Err, sym, refl, Bor}
+use Rattle.std.proofs.lemmas.Bool.{eqb-false}
+use Rattle.console.specs.Lines.{Said, said, only_word}
+use Rattle.console.specs.Splitting.{texts}
+use Rattle.console.specs.declared.problem.Problem.TheVariants.{ExtraWord}
 use Rattle.console.proofs.line.only_word.Goals as goal
 
-pub returns-then-is_empty : goal.returns-then-is_empty
-returns-then-is_empty c =
-    sym (alone (said c.args.line) c.args.words.now (eqb-true _ 0 (sym c.if-is_empty.ensures)))
+not_alone : (s : Said) (ws : List (Bor (List ℕ))) → (length ws ≡ 0 → ⊥) → only_word s (texts ws) ≡ Err ExtraWord
+not_alone s [] h = absurd (h refl)
+not_alone s (w ∷ ws) h = refl
 
 pub returns-else-is_empty : goal.returns-else-is_empty
 returns-else-is_empty c =

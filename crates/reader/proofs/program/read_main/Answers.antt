@@ -1,13 +1,15 @@
 -- Main's block that was read, and the fault that reading it found.
-use Rattle.std.proofs.Common.{Err, ap, ◌∙◌, rules}
+use Rattle.std.proofs.Common.{Err, ap, ◌∙◌}
 use Rattle.std.proofs.lemmas.Result.{err_from_is_err_and}
 use Rattle.reader.proofs.Mains.{main_read, main_stopped}
 use Rattle.reader.proofs.program.read_main.Goals as goal
 
 pub returns : goal.returns
-returns c = main_read c.args.variables.now c.args.from c.args.program.now (search rules) (search rules) c.in_ok-extent.extent c.read_block.new.counts c.in_ok-extent.ensures.answer
+returns c =
+    let k = c.new-checker.ensures in
+    main_read c.args.variables.now c.args.from c.args.program.now _ _ c.in_ok-text.ensures _ k.variables _ k.counts _ _ c.in_ok-extent.ensures.answer
 
 pub returns-in_err-extent : goal.returns-in_err-extent
 returns-in_err-extent c =
-    let f = err_from_is_err_and c.from_residual.result c.from_residual.ensures.1 in
-    f.1 ∙ ap Err f.2 ∙ main_stopped c.args.variables.now c.args.from c.args.program.now (search rules) (search rules) _ c.in_err-extent.ensures.answer
+    let f = err_from_is_err_and c.from_residual-in_err-extent.result c.from_residual-in_err-extent.ensures.1 in let k = c.new-checker.ensures in
+    f.1 ∙ ap Err f.2 ∙ main_stopped c.args.variables.now c.args.from c.args.program.now _ _ c.in_ok-text.ensures _ k.variables _ k.counts _ c.in_err-extent.ensures.answer

@@ -1,6 +1,0 @@
-use Rattle.console.proofs.Naming.{no_command}
-use Rattle.console.specs.Splitting.{texts}
-use Rattle.console.proofs.line.command_line.Goals as goal
-
-pub returns-in_default : goal.returns-in_default
-returns-in_default c = λ _. no_command c.args.command.now (texts c.args.words.now) c.in_default.not-arithmetic c.in_default.not-evaluate c.in_default.not-summary

@@ -1,0 +1,60 @@
+-- What a reader has left.
+use Rattle.std.specs.Prelude.{◌≡◌, ℕ, suc, ◌-◌, ◌&&◌, List, [], ◌∷◌, length, take, drop, Some, None, Ok, Option, Result, nat_le}
+use Rattle.std.specs.Borrow.{Bor}
+use Rattle.rules.specs.Outcomes.{◌>>=◌, ensure}
+use Rattle.rules.specs.Reading.{most_bytes}
+use Rattle.rules.specs.declared.faults.LoadFault.{LoadFault}
+use Rattle.rules.specs.declared.faults.LoadFault.TheVariants.{BadLength}
+use Rattle.reader.specs.declared.reader.Reader.{Reader}
+
+-- The bytes from one place of a program to another.
+abbrev pub bytes_between : List ℕ → (place end : ℕ) → List ℕ
+bytes_between bs p e = take (e - p) (drop p bs)
+
+-- The bytes from the reader's place to the end of its block.
+abbrev pub left_of : Reader → List ℕ
+left_of r = bytes_between r.program.now r.place r.end
+
+-- The place where the reader's block ends.
+abbrev pub end_of : Reader → ℕ
+end_of r = r.end
+
+-- The place of the statement whose command was just taken.
+abbrev pub statement_place : Reader → ℕ
+statement_place r = end_of r - suc (length (left_of r))
+
+-- The end of a reader's block, and the bytes left before it.
+abbrev pub end_and_left : Reader → ℕ × List ℕ
+end_and_left r = (end_of r, left_of r)
+
+-- The bytes of a program from place k on, and where they end.
+abbrev pub from_place : (k : ℕ) → List ℕ → Result (ℕ × List ℕ) LoadFault
+from_place k bs = do
+  _ ← ensure (nat_le (length bs) most_bytes && nat_le k (length bs)) BadLength
+  Ok (length bs, drop k bs)
+
+-- A number that was taken, with the bytes left after it.
+abbrev pub number_left : List ℕ → ℕ → ℕ × List ℕ
+number_left l n = (n, l)
+
+-- Bytes that were taken, with those left after them.
+abbrev pub bytes_left : List ℕ → Bor (List ℕ) → List ℕ × List ℕ
+bytes_left l s = (s.now, l)
+
+-- A part that was taken, with the bytes left after it.
+abbrev pub part_left : List ℕ → Reader → List ℕ × List ℕ
+part_left l r = (left_of r, l)
+
+-- The first byte of what is left is taken, and the rest is left; at the end nothing is taken.
+abbrev pub CommandTaken : (before after : List ℕ) → Option ℕ → Type 0
+CommandTaken before after None = (before ≡ []) × (after ≡ [])
+CommandTaken before after (Some c) = before ≡ c ∷ after
+
+-- A part of a block ends where the bytes left after it begin, of which there are as many as `left`, before the block's end.
+abbrev pub EndsBefore : (end : ℕ) (left : List ℕ) → (part : Reader) → Type 0
+EndsBefore e l r = end_of r ≡ e - length l
+
+-- Two parts in a row, and then what is left before the end: each part ends where the next begins.
+pub record InTurn (end : ℕ) (left : List ℕ) (first second : Reader) : Type 0 where
+  pub second_end : EndsBefore end left second
+  pub first_end : EndsBefore (end_of second) (left_of second) first

@@ -87,7 +87,7 @@ limits_from : (n : ℕ) (k : Form) (a : Counted) → within_limits n k a ≡ tru
 limits_from n k a e = let u = and_parts _ _ e in (ltb-true _ _ u.0, leb-true _ _ (and_parts _ _ u.1).0)
 
 -- An accepted head is within the limits, and its parts are parts of the bytes.
-pub fine_head : (bs left : List ℕ) (n p : ℕ) (a : Counts) (h : Head) → true ≡ within_limits n h.form (counted a) → Ok (record { byte = h.byte; code = h.code.now; first = left_of h.first; second = left_of h.second; after = left }) ≡ parts_in p h.form bs → Fine bs left a h
+pub fine_head : (bs left : List ℕ) (n p : ℕ) (a : Counts) (h : Head) → true ≡ within_limits n h.form (counted a) → Ok (record { byte = h.parts.byte; code = h.parts.code.now; first = left_of h.parts.first; second = left_of h.parts.second; after = left }) ≡ parts_in p h.form bs → Fine bs left a h
 fine_head bs left n p a h ok e =
     let z = sized p h.form bs _ e in
     let m = limits_from n h.form (counted a) (sym ok) in

@@ -100,16 +100,16 @@ module _ (C : Checker) (s : Scope) (B : Reader) (c : ℕ) where
   abbrev between : ℕ → Counts → Counts
   between w b = record { statements = b.statements; pars = b.pars; threads = b.threads + w }
 
-  module _ (A : Reader) (o : Head) (w t₁ : ℕ) (h : Ok (seen (left_of A) o) ≡ head_seen) (turn : InTurn e (left_of A) o.first o.second) (w_is : w ≡ par_count o.form) (t_is : t₁ ≡ block_thread o.form t (a.threads + w)) where
+  module _ (A : Reader) (o : Head) (w t₁ : ℕ) (h : Ok (seen (left_of A) o) ≡ head_seen) (turn : InTurn e (left_of A) o.parts.first o.parts.second) (w_is : w ≡ par_count o.form) (t_is : t₁ ≡ block_thread o.form t (a.threads + w)) where
     abbrev q : Seen
     q = seen (left_of A) o
 
-    first_end : o.first.end ≡ e - length q.after - length q.second
+    first_end : o.parts.first.end ≡ e - length q.after - length q.second
     first_end = turn.first_end ∙ ap (λ k. k - length q.second) turn.second_end
 
     -- The first block, as the code reads it and as the rules do.
     abbrev first_code : Result (Block (Unit {0})) LoadFault
-    first_code = read_block ds n t₁ (begun w) o.first.end q.first
+    first_code = read_block ds n t₁ (begun w) o.parts.first.end q.first
 
     abbrev first_rule : Result (Block (Unit {0})) LoadFault
     first_rule = read_block ds n (block_thread q.form t (before_first q.form a).threads) (before_first q.form a) (e - length q.after - length q.second) q.first
@@ -144,7 +144,7 @@ module _ (C : Checker) (s : Scope) (B : Reader) (c : ℕ) where
       module _ (t₂ : ℕ) (u_is : t₂ ≡ block_thread q.form t (b.threads + w)) where
         -- The second block, as the code reads it and as the rules do.
         abbrev second_code : Result (Block (Unit {0})) LoadFault
-        second_code = read_block D.variables.now s'.nesting t₂ (between w b) o.second.end q.second
+        second_code = read_block D.variables.now s'.nesting t₂ (between w b) o.parts.second.end q.second
 
         abbrev second_rule : Result (Block (Unit {0})) LoadFault
         second_rule = read_block ds n (block_thread q.form t (before_second q.form X a).threads) (before_second q.form X a) (e - length q.after) q.second

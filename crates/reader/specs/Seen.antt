@@ -19,7 +19,7 @@ pub record Seen : Type 0 where
 
 -- The head that the code points to, with the bytes left after it.
 abbrev pub seen : List ℕ → Head → Seen
-seen l h = record { form = h.form; byte = h.byte; code = h.code.now; code_from = h.code_place; first = left_of h.first; second = left_of h.second; after = l }
+seen l h = record { form = h.form; byte = h.parts.byte; code = h.parts.code.now; code_from = h.code_place; first = left_of h.parts.first; second = left_of h.parts.second; after = l }
 
 -- The head of the rules, of a statement at place p.
 abbrev pub seen_head : (p : ℕ) → Headed → Seen
@@ -27,9 +27,9 @@ seen_head p h = record { form = h.form; byte = h.parts.byte; code = h.parts.code
 
 -- What an accepted head says of the limits, and of its parts in the bytes `rest` that follow its command, with the bytes `left` after it.
 pub record Fine (rest left : List ℕ) (a : Counts) (h : Head) : Type 0 where
-  pub short : length (left_of h.first) + length (left_of h.second) + length left ≤ length rest
+  pub short : length (left_of h.parts.first) + length (left_of h.parts.second) + length left ≤ length rest
   pub few : a.statements < 512
   pub few_pars : a.pars + par_count h.form ≤ 15
-  pub no_first : has_block h.form ≡ false → left_of h.first ≡ []
-  pub no_second : has_second_block h.form ≡ false → left_of h.second ≡ []
-  pub code_part : has_expression h.form ≡ true → h.code.now ≡ take (length h.code.now) (drop (place_of_code h.form 0 - 1) rest)
+  pub no_first : has_block h.form ≡ false → left_of h.parts.first ≡ []
+  pub no_second : has_second_block h.form ≡ false → left_of h.parts.second ≡ []
+  pub code_part : has_expression h.form ≡ true → h.parts.code.now ≡ take (length h.parts.code.now) (drop (place_of_code h.form 0 - 1) rest)

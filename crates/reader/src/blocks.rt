@@ -82,10 +82,10 @@ impl Checker<'_> {
         self.counts.pars += forks;
         self.counts.threads += forks;
         let owner = block_thread(form, thread, self.counts.threads);
-        let first = self.read_block(head.first, owner, scope)?;
+        let first = self.read_block(head.parts.first, owner, scope)?;
         self.counts.threads += forks;
         let owner = block_thread(form, thread, self.counts.threads);
-        let second = self.read_block(head.second, owner, scope)?;
-        Ok(Extent::built(form, head.byte, first, second))
+        let second = self.read_block(head.parts.second, owner, scope)?;
+        Ok(Extent::built(form, head.parts.byte, first, second))
     }
 }

@@ -13,21 +13,19 @@ use crate::checker::Checker;
 use crate::counts::within_limits;
 use crate::faults::SitedFault;
 use crate::forms::{flags_known, has_byte, has_expression};
+use crate::parts::Parts;
 use crate::reader::Reader;
 use crate::scope::Scope;
 use rules::faults::{ReadingFault, Site, StatementFault};
 use rules::program::Form;
 use rules::scopes::may_set;
 
-/// A statement's parts, its checks done; `code` is its expression, which begins at `code_place`.
+/// A statement's form and parts, its checks done; its expression begins at `code_place`.
 #[derive(Clone, Copy)]
 pub struct Head<'a> {
     pub form: Form,
-    pub byte: u8,
-    pub code: &'a [u8],
+    pub parts: Parts<'a>,
     pub code_place: usize,
-    pub first: Reader<'a>,
-    pub second: Reader<'a>,
 }
 
 // Where the expression of a statement begins.
@@ -74,7 +72,7 @@ impl Checker<'_> {
     ) -> Result<Head<'a>, StatementFault>
         ensures answer { mapped (seen (left_of block.new)) result ≡ mapped (seen_head (statement_place block.old)) (head_read self.now.variables.now scope.nesting scope.thread (counted self.now.counts) (statement_place block.old) command (left_of block.old)) }
         ensures fine { IfOk result (λ h. Fine (left_of block.old) (left_of block.new) self.now.counts h) }
-        ensures in_turn { IfOk result (λ h. InTurn (end_of block.old) (left_of block.new) h.first h.second) }
+        ensures in_turn { IfOk result (λ h. InTurn (end_of block.old) (left_of block.new) h.parts.first h.parts.second) }
         ensures end { end_of block.new ≡ end_of block.old }
     {
         let statement = block.statement();
@@ -93,11 +91,8 @@ impl Checker<'_> {
         self.check_code(form, parts.code, code_place, statement, scope.thread)?;
         Ok(Head {
             form,
-            byte: parts.byte,
-            code: parts.code,
+            parts,
             code_place,
-            first: parts.first,
-            second: parts.second,
         })
     }
 
@@ -110,7 +105,7 @@ impl Checker<'_> {
     ) -> Result<Head<'a>, SitedFault>
         ensures answer { told_head (left_of block.new) result ≡ mapped (seen_head (statement_place block.old)) (head_at self.now.variables.now scope.nesting scope.thread (counted self.now.counts) (end_of block.old) command (left_of block.old)) }
         ensures fine { IfOk result (λ h. Fine (left_of block.old) (left_of block.new) self.now.counts h) }
-        ensures in_turn { IfOk result (λ h. InTurn (end_of block.old) (left_of block.new) h.first h.second) }
+        ensures in_turn { IfOk result (λ h. InTurn (end_of block.old) (left_of block.new) h.parts.first h.parts.second) }
         ensures end { end_of block.new ≡ end_of block.old }
     {
         let site = Site {

@@ -61,6 +61,7 @@ impl<'a> Reader<'a> {
         Some(*command)
     }
 
+    // Whether a part is wanted is asked here and in the definitions, so that all forms are taken apart in one way.
     /// The byte operand, if one is wanted.
     pub(crate) fn byte(&mut self, wanted: bool, statement: usize) -> Result<u8, ReadingFault>
         ensures answer { mapped (number_left (left_of self.new)) result ≡ byte_in statement wanted (left_of self.old) }

@@ -40,6 +40,7 @@ pub trait Arithmetic {
     fn shows(&self, value: Self::Value) -> i32
         ensures { result ≡ (meaning self.now).shows value };
 
+    // Two numbers and no struct of limits in order, since any two may be given.
     /// A value limited to the numbers from low to high.
     fn limited(&self, low: i32, high: i32, value: Self::Value) -> Self::Value
         ensures { result ≡ (meaning self.now).limited low high value };

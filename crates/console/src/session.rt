@@ -24,6 +24,7 @@ fn rate_in(choice: Choice, evaluation: &Evaluation) -> Result<Rate, Refusal>
 {
     let formula = evaluation.formula();
     let readings = evaluation.readings.as_slice();
+    // A match and no closure, since the two rates are of two types.
     match choice {
         Choice::Plain => formula.plain_rate(readings).map(Rate::Plain),
         Choice::Tracing => formula.traced_rate(readings).map(Rate::Traced),

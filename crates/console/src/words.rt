@@ -1,4 +1,4 @@
-//! The words of a line, and what hexadecimal and decimal words stand for.
+//! The words of a line, and what hexadecimal and decimal words stand for. A word and its place stay two arguments: a struct of both would be made at each call only to be taken apart in it.
 ghost use Rattle.std.specs.Prelude.{◌≡◌, ◌<◌, IfSome, IfOk, vec_items};
 ghost use Rattle.console.specs.Decimal.{decimal_in, number_at};
 ghost use Rattle.console.specs.Hexadecimal.{digit_value, pair_value, bytes_at, expression_at};

@@ -36,6 +36,7 @@ pub fn read_declarations(program: &[u8]) -> Result<Declarations, LoadFault>
         return Err(LoadFault::TooManyVariables);
     }
     let mut declarations = Declarations::none();
+    // By number and not by chunks of the bytes: the number gives the place, also where the bytes are cut.
     for i in 0..count {
         declarations.push(declaration_at(program, 1 + DECLARATION_BYTES * i)?);
     }

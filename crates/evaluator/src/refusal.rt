@@ -25,7 +25,7 @@ impl Refusal {
         }
     }
 
-    /// The place that it carries.
+    /// The place that it carries; 0 where it is at no command, since every refusal is told with a place.
     pub fn place(self) -> usize
         ensures { result ≡ refusal_place self }
     {

@@ -5,32 +5,19 @@ ghost use Rattle.std.specs.Prelude.{◌≡◌, ◌+◌, ◌-◌, ◌^◌, min};
 
 use console::problem::Problem;
 use console::session::Session;
-use std::io::{BufRead, BufReader, Read};
+use std::io::{self, BufRead, BufReader, Read};
 use std::process::ExitCode;
-use std::{fmt, io};
+use thiserror::Error;
 
 /// Why a job ends before its last line.
-#[derive(Drop)]
+#[derive(Drop, Debug, Error)]
 enum Stop {
+    #[error("line {0}: {1}")]
     BadLine(usize, Problem),
+    #[error("line {0}: {1}")]
     UnreadLine(usize, io::Error),
-    UnwrittenAnswer(io::Error),
-}
-
-impl fmt::Display for Stop {
-    fn fmt<W: fmt::Write>(&self, f: &mut fmt::Formatter<W>) -> fmt::Result {
-        match self {
-            Stop::BadLine(line, problem) => write!(f, "line {line}: {problem}"),
-            Stop::UnreadLine(line, error) => write!(f, "line {line}: {error}"),
-            Stop::UnwrittenAnswer(error) => write!(f, "an answer could not be written: {error}"),
-        }
-    }
-}
-
-impl From<io::Error> for Stop {
-    fn from(error: io::Error) -> Stop {
-        Stop::UnwrittenAnswer(error)
-    }
+    #[error("an answer could not be written: {0}")]
+    UnwrittenAnswer(#[from] io::Error),
 }
 
 // The number of the line with that many lines before it; the count stops at the highest number.

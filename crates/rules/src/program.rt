@@ -23,6 +23,7 @@ pub enum Policy {
     Mod = 2,
 }
 
+// No enum with the fields of each kind: a declaration may be made of any of them together, and reading asks for 0 where a kind has none.
 /// What is declared of a variable. The owner is a private's thread.
 #[derive(Clone, Copy)]
 pub struct Variable {

@@ -10,6 +10,7 @@ mod tests;
 /// A stack on the places of a lent slice, from the base on. The places before the base can be read and stay as they are.
 #[derive(Drop)]
 pub struct Stack<'a, T> {
+    // Fixed memory: the places are the caller's, so how many of them are in use stands beside them.
     places: &'a mut [T],
     base: usize,
     depth: usize,

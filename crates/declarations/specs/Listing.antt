@@ -1,4 +1,4 @@
--- The declarations that the bytes of a program hold.
+-- The declarations of a program: those that are held, and those that its bytes hold.
 use Rattle.std.specs.Prelude.{ℕ, ◌+◌, ◌-◌, ◌*◌, ◌&&◌, List, [], ◌∷◌, length, take, Ok, Err, Result, nat_le}
 use Rattle.evaluator.specs.Rates.{most_variables}
 use Rattle.rules.specs.Outcomes.{◌>>=◌, ensure}
@@ -9,6 +9,12 @@ use Rattle.rules.specs.declared.program.Variable.{Variable}
 use Rattle.rules.specs.declared.faults.LoadFault.{LoadFault}
 use Rattle.rules.specs.declared.faults.LoadFault.TheVariants.{BadLength, TooManyVariables, CutDeclaration, BadDeclaration, TickTooLong}
 use Rattle.rules.specs.declared.faults.ReadingFault.TheVariants.{Cut}
+use Rattle.declarations.specs.Declaring.{variables_of}
+use Rattle.declarations.specs.declared.list.Declarations.{Declarations}
+
+-- The variables that are declared, in the order of their numbers.
+abbrev pub listed : Declarations → List Variable
+listed d = variables_of (take d.count d.list)
 
 -- The declaration that bytes begin with, where they end at place `end`: of 16 bytes, else it is cut.
 abbrev pub first_declaration : (end : ℕ) → List ℕ → Result Variable LoadFault

@@ -88,7 +88,7 @@ impl Declaration {
         self.variable.operator
     }
 
-    /// The thread of a private; 0 for another variable.
+    /// The thread of a private; reading asks for 0 at another variable.
     pub fn owner(self) -> u8
         ensures { result ≡ (variable_of self).owner }
     {

@@ -3,49 +3,45 @@ ghost use Rattle.std.specs.Prelude.{◌≡◌, ◌<◌, ◌≤◌, [], ◌∷◌
 ghost use Rattle.declarations.specs.Declaring.{variable_of, variables_of};
 
 use crate::declaration::Declaration;
-use arrayvec::ArrayVec;
 use evaluator::rate::MOST_VARIABLES;
-use std::marker::Model;
 
-/// The declarations of a program's variables, in the order of the variables' numbers. Contracts see the variables that they declare.
-#[derive(Clone, Drop)]
+// Fixed memory, and copied as a whole: a list of fixed capacity from the library has no `Copy`, and its clone may fail.
+/// The declarations of a program's variables, at most 32 of them, in the order of the variables' numbers.
+#[derive(Clone, Copy)]
 pub struct Declarations {
-    list: ArrayVec<Declaration, MOST_VARIABLES>,
-}
-
-impl Model for Declarations {
-    ghost use Rattle.std.specs.Prelude.{List};
-    ghost use Rattle.rules.specs.declared.program.Variable.{Variable};
-    ghost use Rattle.declarations.specs.Declaring.{variables_of};
-
-    ghost Value = { List Variable };
-
-    ghost view = { λ d. variables_of d.list.items };
+    list: [Declaration; MOST_VARIABLES],
+    count: usize,
+    ghost long: { length list ≡ 32 },
+    ghost fits: { count ≤ 32 },
 }
 
 impl Declarations {
+    ghost use Rattle.declarations.specs.Listing.{listed};
+
     /// No declarations.
     pub fn none() -> Declarations
-        ensures { result ≡ [] }
+        ensures { listed result ≡ [] }
     {
         Declarations {
-            list: ArrayVec::new(),
+            list: [Declaration::default(); MOST_VARIABLES],
+            count: 0,
         }
     }
 
     /// The declarations in order.
     pub fn as_slice(&self) -> &[Declaration]
-        ensures same { variables_of result.now ≡ self.now }
+        ensures same { variables_of result.now ≡ listed self.now }
         ensures few { length result.now ≤ 32 }
     {
-        self.list.as_slice()
+        &self.list[..self.count]
     }
 
     // One declaration more, behind the others.
     pub(crate) fn push(&mut self, declaration: Declaration)
-        requires { length self.old < 32 }
-        ensures { self.new ≡ self.old ++ variable_of declaration ∷ [] }
+        requires { length (listed self.old) < 32 }
+        ensures { listed self.new ≡ listed self.old ++ variable_of declaration ∷ [] }
     {
-        self.list.push(declaration);
+        self.list[self.count] = declaration;
+        self.count += 1;
     }
 }

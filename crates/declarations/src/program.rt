@@ -3,7 +3,7 @@ ghost use Rattle.std.specs.Prelude.{◌≡◌, ◌≤◌, length, drop};
 ghost use Rattle.evaluator.specs.Outcomes.{mapped};
 ghost use Rattle.rules.specs.Reading.{owners_live};
 ghost use Rattle.declarations.specs.Declaring.{variable_of};
-ghost use Rattle.declarations.specs.Listing.{first_declaration, declarations_in};
+ghost use Rattle.declarations.specs.Listing.{listed, first_declaration, declarations_in};
 
 use crate::declaration::Declaration;
 use crate::list::Declarations;
@@ -26,7 +26,7 @@ fn declaration_at(program: &[u8], place: usize) -> Result<Declaration, LoadFault
 
 /// The declarations of a program, or why its length, their count or one of them is refused.
 pub fn read_declarations(program: &[u8]) -> Result<Declarations, LoadFault>
-    ensures { result ≡ declarations_in program.now }
+    ensures { mapped listed result ≡ declarations_in program.now }
 {
     if program.is_empty() || program.len() > MOST_BYTES {
         return Err(LoadFault::BadLength);
@@ -45,7 +45,7 @@ pub fn read_declarations(program: &[u8]) -> Result<Declarations, LoadFault>
 
 /// The first declaration whose owner is none of the threads is bad.
 pub fn owners_live(declarations: &Declarations, threads: usize) -> Result<(), LoadFault>
-    ensures { result ≡ owners_live threads 1 declarations.now }
+    ensures { result ≡ owners_live threads 1 (listed declarations.now) }
 {
     let list = declarations.as_slice();
     match list.iter().position(|d| d.owner() as usize >= threads) {

@@ -6,21 +6,21 @@ use arithmetic::operators::{Combining, UnknownNumber};
 /// The most bytes of a program.
 pub const MOST_BYTES: usize = 4096;
 
-/// What kind of variable is declared, by its number in a declaration.
+/// What kind of variable is declared.
 #[derive(Clone, Copy, PartialEq, Eq, Debug)]
 pub enum Kind {
-    Input = 0,
-    Private = 1,
-    Shared = 2,
-    Output = 3,
+    Input,
+    Private,
+    Shared,
+    Output,
 }
 
-/// Which copies of a shared variable a join takes, by its number in a declaration.
+/// Which copies of a shared variable a join takes.
 #[derive(Clone, Copy, PartialEq, Eq, Debug)]
 pub enum Policy {
-    All = 0,
-    New = 1,
-    Mod = 2,
+    All,
+    New,
+    Mod,
 }
 
 // No enum with the fields of each kind: a declaration may be made of any of them together, and reading asks for 0 where a kind has none.
@@ -39,13 +39,13 @@ pub struct Variable {
 /// The form of a statement: what its command byte says.
 #[derive(Clone, Copy, PartialEq, Eq, Debug)]
 pub enum Form {
-    Nothing = 0,
-    Set = 1,
-    Pause = 2,
-    If = 3,
-    Loop = 4,
-    Par = 5,
-    Abort = 6,
+    Nothing,
+    Set,
+    Pause,
+    If,
+    Loop,
+    Par,
+    Abort,
 }
 
 impl TryFrom<u8> for Kind {

@@ -37,7 +37,7 @@ pub fn bytes_at(heap: Global, place: usize, word: &str) -> Result<Vec<u8>, Probl
     ensures { Gives vec_items (bytes_at place word.now) result }
 {
     let mut bytes = Vec::new(heap);
-    // A slice pattern hands out both digits of a pair, and leaves an odd one over; a chunk of two would be taken apart again.
+    // The pattern takes a pair at a time, and leaves an odd digit over.
     let mut rest = word.as_bytes();
     while let [high, low, after @ ..] = rest {
         let byte = pair_value(*high, *low).ok_or(Problem::NotHexadecimal(place))?;

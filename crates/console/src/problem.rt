@@ -28,6 +28,7 @@ pub enum Problem {
     OutOfMemory,
 }
 
+// By hand, as the next one: a derived `From` has no contract.
 impl From<AllocError> for Problem {
     ghost from_gives = { λ _ r. r ≡ OutOfMemory };
 

@@ -1,8 +1,6 @@
 pub mod Alike
-pub mod Performing
 pub mod Reading
 pub mod Sampling
 pub mod Taking
 pub mod Tracing
 pub mod Turns
-pub mod Whole

@@ -47,6 +47,10 @@ module _ {V : Type 0} where
   value_at vs None = None
   value_at vs (Some p) = slice_get vs p
 
+  -- What a variable holds, where `places` gives the place of each variable that can be read.
+  abbrev pub value_of : List V → (places : ℕ → Option ℕ) → ℕ → Option V
+  value_of vs places v = value_at vs (places v)
+
 -- M says what values are; look gives the value of each variable that can be read.
 module _ {V : Type 0} (M : Meaning V) (look : ℕ → Option V) where
   -- What the command at place p does to the stacked values.
@@ -85,5 +89,5 @@ all_places = 1040
 -- Evaluating over a value memory, where `places` gives the place of each variable that can be read.
 abbrev pub evaluated_in : {V : Type 0} → Meaning V → (places : ℕ → Option ℕ) → (memory : List V) → List ℕ → Result V Refusal
 evaluated_in M places memory bs = cond (length memory == all_places)
-    (evaluated M (λ v. value_at (take variable_places memory) (places v)) bs)
+    (evaluated M (value_of (take variable_places memory) places) bs)
     (Err Memory)

@@ -1,10 +1,10 @@
 //! The evaluator: from the bytes of an expression to its value.
-ghost use Rattle.std.specs.Prelude.{◌≡◌, ◌+◌, ◌<◌, ◌≤◌, [], ◌∷◌, length, take, IfOk, ◌≢◌};
+ghost use Rattle.std.specs.Prelude.{◌≡◌, ◌<◌, [], ◌∷◌, length, take, IfOk, ◌≢◌};
 ghost use Rattle.arithmetic.specs.Meaning.{two, inverse};
 ghost use Rattle.evaluator.specs.Commands.{next_command, commands_of};
-ghost use Rattle.evaluator.specs.Evaluating.{stack_one, stack_found, operate_two, operate_one, only, value_at, taken, run, evaluated_in};
-ghost use Rattle.evaluator.specs.Outcomes.{and_then, leaving, leaving_with};
-ghost use Rattle.stack.specs.Stacks.{stacked, room, before_base};
+ghost use Rattle.evaluator.specs.Evaluating.{stack_one, stack_found, operate_two, operate_one, only, value_of, taken, run, evaluated, evaluated_in};
+ghost use Rattle.evaluator.specs.Outcomes.{leaving, leaving_with};
+ghost use Rattle.stack.specs.Stacks.{stacked, room};
 
 use crate::refusal::Refusal;
 use crate::scope::Scope;
@@ -24,22 +24,44 @@ pub const DEEPEST: usize = 16;
 /// The most bytes of an expression.
 pub const LONGEST: usize = 64;
 
-// An expression's evaluation: the arithmetic and the scope that it goes by, and the stack of its values, with room for 16.
-// The stack is lent to it: of a stack that lies inside, the check does not know what it leaves in its memory.
+// An expression's evaluation: the arithmetic and the scope that it goes by, what the variables hold, and the stack of its values, with room for 16.
+// The variables and the stack have each a lifetime: with one for both, the check does not know what the memory holds in the end.
 #[derive(Drop)]
-struct Evaluation<'a, 's, 'k, 'm, A: Arithmetic, S> {
+struct Evaluation<'a, 'v, 'm, A: Arithmetic, S> {
     arithmetic: &'a A,
-    scope: &'s S,
-    stack: &'k mut Stack<'m, A::Value>,
-    ghost sixteen: { room stack.now ≡ 16 },
+    scope: &'a S,
+    variables: &'v [A::Value],
+    stack: Stack<'m, A::Value>,
+    ghost sixteen: { room stack ≡ 16 },
 }
 
-impl<A: Arithmetic, S: Scope> Evaluation<'_, '_, '_, '_, A, S> {
+impl<'a, 'v, 'm, A: Arithmetic, S: Scope> Evaluation<'a, 'v, 'm, A, S> {
     ghost use Rattle.evaluator.specs.Evaluations.{SameSetting};
+
+    // Nothing is stacked yet; there is room for a value in each of the work places.
+    fn new(
+        arithmetic: &'a A,
+        scope: &'a S,
+        variables: &'v [A::Value],
+        work: &'m mut [A::Value],
+    ) -> Self
+        requires { length work.old ≡ 16 }
+        ensures arithmetic { result.arithmetic ≡ arithmetic.entry }
+        ensures scope { result.scope ≡ scope.entry }
+        ensures variables { result.variables ≡ variables.entry }
+        ensures empty { stacked result.stack ≡ [] }
+    {
+        Evaluation {
+            arithmetic,
+            scope,
+            variables,
+            stack: Stack::new(work),
+        }
+    }
 
     // One value more for the command at a place.
     fn stack_value(&mut self, value: A::Value, place: usize) -> Result<(), Refusal>
-        ensures answer { leaving (stacked self.new.stack.now) result ≡ stack_one place value (stacked self.old.stack.now) }
+        ensures answer { leaving (stacked self.new.stack) result ≡ stack_one place value (stacked self.old.stack) }
         ensures setting { SameSetting self.old self.new }
     {
         self.stack
@@ -49,15 +71,15 @@ impl<A: Arithmetic, S: Scope> Evaluation<'_, '_, '_, '_, A, S> {
 
     // What a variable holds, if it can be read.
     fn variable_value(&self, variable: u8) -> Option<A::Value>
-        ensures { result ≡ value_at (before_base self.now.stack.now) (S.Scope.places self.now.scope.now variable) }
+        ensures { result ≡ value_of self.now.variables.now (S.Scope.places self.now.scope.now) variable }
     {
-        self.stack.before_base(self.scope.place(variable)?)
+        self.variables.get(self.scope.place(variable)?).copied()
     }
 
     // The value of a variable is stacked.
     fn stack_variable(&mut self, variable: u8, place: usize) -> Result<(), Refusal>
-        requires { length (stacked self.old.stack.now) < 16 }
-        ensures answer { leaving (stacked self.new.stack.now) result ≡ stack_found place (value_at (before_base self.old.stack.now) (S.Scope.places self.old.scope.now variable)) (stacked self.old.stack.now) }
+        requires { length (stacked self.old.stack) < 16 }
+        ensures answer { leaving (stacked self.new.stack) result ≡ stack_found place (value_of self.old.variables.now (S.Scope.places self.old.scope.now) variable) (stacked self.old.stack) }
         ensures setting { SameSetting self.old self.new }
     {
         let value = self
@@ -68,7 +90,7 @@ impl<A: Arithmetic, S: Scope> Evaluation<'_, '_, '_, '_, A, S> {
 
     // An operator on the two values stacked last.
     fn operate_on_two(&mut self, operator: Operator, place: usize) -> Result<(), Refusal>
-        ensures answer { leaving (stacked self.new.stack.now) result ≡ operate_two place (λ x y. (A.Arithmetic.meaning self.old.arithmetic.now).operated (two operator x y)) (stacked self.old.stack.now) }
+        ensures answer { leaving (stacked self.new.stack) result ≡ operate_two place (λ x y. (A.Arithmetic.meaning self.old.arithmetic.now).operated (two operator x y)) (stacked self.old.stack) }
         ensures setting { SameSetting self.old self.new }
     {
         let second = self.stack.pop().ok_or(Refusal::BadExpression(place))?;
@@ -78,7 +100,7 @@ impl<A: Arithmetic, S: Scope> Evaluation<'_, '_, '_, '_, A, S> {
 
     // The operator `not` on the value stacked last.
     fn operate_on_one(&mut self, place: usize) -> Result<(), Refusal>
-        ensures answer { leaving (stacked self.new.stack.now) result ≡ operate_one place (λ x. (A.Arithmetic.meaning self.old.arithmetic.now).operated (inverse x)) (stacked self.old.stack.now) }
+        ensures answer { leaving (stacked self.new.stack) result ≡ operate_one place (λ x. (A.Arithmetic.meaning self.old.arithmetic.now).operated (inverse x)) (stacked self.old.stack) }
         ensures setting { SameSetting self.old self.new }
     {
         let value = self.stack.pop().ok_or(Refusal::BadExpression(place))?;
@@ -87,7 +109,7 @@ impl<A: Arithmetic, S: Scope> Evaluation<'_, '_, '_, '_, A, S> {
 
     // The first command of the bytes left; answers the bytes after it.
     fn perform<'c>(&mut self, code: &'c [u8], place: usize) -> Result<&'c [u8], Refusal>
-        ensures answer { leaving_with (stacked self.new.stack.now) result ≡ taken (A.Arithmetic.meaning self.old.arithmetic.now) (λ v. value_at (before_base self.old.stack.now) (S.Scope.places self.old.scope.now v)) place (next_command code.now) (stacked self.old.stack.now) }
+        ensures answer { leaving_with (stacked self.new.stack) result ≡ taken (A.Arithmetic.meaning self.old.arithmetic.now) (value_of self.old.variables.now (S.Scope.places self.old.scope.now)) place (next_command code.now) (stacked self.old.stack) }
         ensures shorter { IfOk result (λ rest. length rest.now < length code.now) }
         ensures setting { SameSetting self.old self.new }
     {
@@ -119,8 +141,8 @@ impl<A: Arithmetic, S: Scope> Evaluation<'_, '_, '_, '_, A, S> {
 
     // All commands in turn.
     fn run(&mut self, code: &[u8]) -> Result<(), Refusal>
-        requires { stacked self.old.stack.now ≡ [] }
-        ensures answer { leaving (stacked self.new.stack.now) result ≡ run (A.Arithmetic.meaning self.old.arithmetic.now) (λ v. value_at (before_base self.old.stack.now) (S.Scope.places self.old.scope.now v)) (commands_of code.now) [] }
+        requires { stacked self.old.stack ≡ [] }
+        ensures answer { leaving (stacked self.new.stack) result ≡ run (A.Arithmetic.meaning self.old.arithmetic.now) (value_of self.old.variables.now (S.Scope.places self.old.scope.now)) (commands_of code.now) [] }
         ensures setting { SameSetting self.old self.new }
     {
         let mut rest = code;
@@ -133,8 +155,7 @@ impl<A: Arithmetic, S: Scope> Evaluation<'_, '_, '_, '_, A, S> {
 
     // The one value that remains.
     fn remaining(&mut self) -> Result<A::Value, Refusal>
-        ensures answer { result ≡ only (stacked self.old.stack.now) }
-        ensures setting { SameSetting self.old self.new }
+        ensures { result ≡ only (stacked self.old.stack) }
     {
         if self.stack.depth() != 1 {
             return Err(Refusal::BadExpression(0));
@@ -142,12 +163,14 @@ impl<A: Arithmetic, S: Scope> Evaluation<'_, '_, '_, '_, A, S> {
         self.stack.pop().ok_or(Refusal::BadExpression(0))
     }
 
-    // The value of all commands.
+    // The value of an expression's bytes.
     fn value(&mut self, code: &[u8]) -> Result<A::Value, Refusal>
-        requires { stacked self.old.stack.now ≡ [] }
-        ensures answer { result ≡ and_then (run (A.Arithmetic.meaning self.old.arithmetic.now) (λ v. value_at (before_base self.old.stack.now) (S.Scope.places self.old.scope.now v)) (commands_of code.now) []) only }
-        ensures setting { SameSetting self.old self.new }
+        requires { stacked self.old.stack ≡ [] }
+        ensures { result ≡ evaluated (A.Arithmetic.meaning self.old.arithmetic.now) (value_of self.old.variables.now (S.Scope.places self.old.scope.now)) code.now }
     {
+        if code.is_empty() || code.len() > LONGEST {
+            return Err(Refusal::BadExpression(0));
+        }
         self.run(code)?;
         self.remaining()
     }
@@ -167,14 +190,6 @@ pub fn evaluate<A: Arithmetic, S: Scope>(
     if memory.len() != ALL_PLACES {
         return Err(Refusal::Memory);
     }
-    if code.is_empty() || code.len() > LONGEST {
-        return Err(Refusal::BadExpression(0));
-    }
-    let mut stack = Stack::new(memory, VARIABLE_PLACES);
-    let mut evaluation = Evaluation {
-        arithmetic,
-        scope,
-        stack: &mut stack,
-    };
-    evaluation.value(code)
+    let (variables, work) = memory.split_at_mut(VARIABLE_PLACES);
+    Evaluation::new(arithmetic, scope, variables, work).value(code)
 }

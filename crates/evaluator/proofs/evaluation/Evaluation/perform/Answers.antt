@@ -2,8 +2,8 @@ use Rattle.std.proofs.Common.{◌≡◌, get_or, arith}
 use Rattle.std.proofs.lemmas.Grind.{common_steps}
 use Rattle.arithmetic.specs.Operators.{operator_byte}
 use Rattle.evaluator.specs.Commands.{operator, next_command}
-use Rattle.evaluator.specs.Evaluating.{value_at}
-use Rattle.stack.specs.Stacks.{stacked, before_base}
+use Rattle.evaluator.specs.Evaluating.{value_of}
+use Rattle.stack.specs.Stacks.{stacked}
 use Rattle.evaluator.proofs.Taking.{from, operators_cover, operator_first, taken_ok, refused_first}
 use Rattle.evaluator.proofs.evaluation.Evaluation.perform.Goals as goal
 
@@ -18,18 +18,18 @@ pub returns-in_ok-operate_on_two-in-66-to-72-clause-answer :
     goal.returns-in_ok-operate_on_two-in-66-to-72-clause-answer
 returns-in_ok-operate_on_two-in-66-to-72-clause-answer g c =
     let M = g.A.Arithmetic.meaning c.args.self.now.arithmetic.now in
-    let s = c.args.self.now.stack.now in
+    let s = c.args.self.now.stack in
     let bs = c.args.code.now in
     let o = c.in_ok-operator-in-66-to-72.operator in
     let e = c.try_from.ensures in
     let byte : operator_byte o ≡ get_or bs 0 0 = grind (arith, common_steps) in
-    taken_ok M (λ v. value_at (before_base s) (g.S.Scope.places c.args.self.now.scope.now v)) c.args.place (next_command bs) (operator o) (from 1 bs)
-    (stacked s) (stacked c.operate_on_two.new.self.stack.now) (operator_first bs o byte) c.in_ok-operate_on_two-in-66-to-72.ensures.answer
+    taken_ok M (value_of c.args.self.now.variables.now (g.S.Scope.places c.args.self.now.scope.now)) c.args.place (next_command bs) (operator o) (from 1 bs)
+    (stacked s) (stacked c.operate_on_two.new.self.stack) (operator_first bs o byte) c.in_ok-operate_on_two-in-66-to-72.ensures.answer
 
 pub returns-in_default-clause-answer : goal.returns-in_default-clause-answer
 returns-in_default-clause-answer g c =
     let M = g.A.Arithmetic.meaning c.args.self.now.arithmetic.now in
-    let s = c.args.self.now.stack.now in
+    let s = c.args.self.now.stack in
     let bs = c.args.code.now in
-    refused_first M (λ v. value_at (before_base s) (g.S.Scope.places c.args.self.now.scope.now v)) c.args.place bs (stacked s)
+    refused_first M (value_of c.args.self.now.variables.now (g.S.Scope.places c.args.self.now.scope.now)) c.args.place bs (stacked s)
     (λ e h. grind arith) (λ e h. grind arith) (λ e h k. grind arith) (λ e h. grind arith)

@@ -1,9 +1,9 @@
 use Rattle.std.proofs.Common.{◌<◌, length, Err, sym, ap, ◌∙◌, arith, rules}
 use Rattle.std.proofs.lemmas.Result.{err_from_is_err_and}
 use Rattle.std.proofs.lemmas.Bool.{eqb-false}
-use Rattle.evaluator.specs.Evaluating.{value_at}
+use Rattle.evaluator.specs.Evaluating.{value_of}
 use Rattle.evaluator.specs.Outcomes.{leaving}
-use Rattle.stack.specs.Stacks.{stacked, before_base}
+use Rattle.stack.specs.Stacks.{stacked}
 use Rattle.evaluator.proofs.Turns.{next_turn, refused_turn}
 use Rattle.evaluator.proofs.evaluation.Evaluation.run.Goals as goal
 
@@ -17,9 +17,9 @@ loop-rest-preserved g c =
     let some : 0 < length rest = omega arith in
     record {
       setting = search rules;
-      turn = next_turn (g.A.Arithmetic.meaning self.arithmetic.now) (λ v. value_at (before_base self.stack.now) (g.S.Scope.places self.scope.now v))
-          c.args.code.now rest c.in_ok-rest.rest.now (stacked c.loop-rest.self.stack.now) (stacked c.perform.new.self.stack.now) inv.turn some e.shorter
-          (rw (inv.setting.arithmetic, inv.setting.scope, inv.setting.places.before) at e.answer);
+      turn = next_turn (g.A.Arithmetic.meaning self.arithmetic.now) (value_of self.variables.now (g.S.Scope.places self.scope.now))
+          c.args.code.now rest c.in_ok-rest.rest.now (stacked c.loop-rest.self.stack) (stacked c.perform.new.self.stack) inv.turn some e.shorter
+          (rw (inv.setting.arithmetic, inv.setting.scope, inv.setting.variables) at e.answer);
     }
 
 pub returns-in_err-rest-clause-answer : goal.returns-in_err-rest-clause-answer
@@ -31,7 +31,7 @@ returns-in_err-rest-clause-answer g c =
     let full = eqb-false _ _ (sym c.is_empty.ensures ∙ c.loop-rest-test.true) in
     let some : 0 < length rest = omega arith in
     let p = err_from_is_err_and c.from_residual.result c.from_residual.ensures.1 in
-    ap (leaving (stacked c.perform.new.self.stack.now)) (p.1 ∙ ap Err p.2)
-    ∙ sym (refused_turn (g.A.Arithmetic.meaning self.arithmetic.now) (λ v. value_at (before_base self.stack.now) (g.S.Scope.places self.scope.now v))
-    c.args.code.now rest (stacked c.loop-rest.self.stack.now) _ inv.turn some
-    (rw (inv.setting.arithmetic, inv.setting.scope, inv.setting.places.before) at e.answer))
+    ap (leaving (stacked c.perform.new.self.stack)) (p.1 ∙ ap Err p.2)
+    ∙ sym (refused_turn (g.A.Arithmetic.meaning self.arithmetic.now) (value_of self.variables.now (g.S.Scope.places self.scope.now))
+    c.args.code.now rest (stacked c.loop-rest.self.stack) _ inv.turn some
+    (rw (inv.setting.arithmetic, inv.setting.scope, inv.setting.variables) at e.answer))

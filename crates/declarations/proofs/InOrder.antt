@@ -8,8 +8,8 @@ use Rattle.rules.specs.declared.program.Variable.{Variable}
 use Rattle.rules.specs.declared.faults.LoadFault.{LoadFault}
 use Rattle.rules.specs.declared.faults.LoadFault.TheVariants.{CutDeclaration, BadDeclaration}
 use Rattle.rules.specs.declared.faults.ReadingFault.TheVariants.{Cut}
+use Rattle.rules.proofs.Results.{same_ok, ensure_then, ok_then}
 use Rattle.declarations.specs.Listing.{first_declaration, declarations_in}
-use Rattle.declarations.proofs.Results.{same_value, tested, row_first}
 
 -- Declarations, and the bytes after them.
 abbrev pub Several : Type 0
@@ -50,7 +50,7 @@ module _ (p : List ℕ) (ds : List Variable) (n i : ℕ) (a : Ahead p ds (suc n)
   -- The next declaration is read.
   one_read : (d : Variable) → Ok d ≡ first_declaration (length p) (drop i p) → Ahead p (ds ++ d ∷ []) n (i + 16)
   one_read d e =
-      let l = leb-true 16 (length (drop i p)) (tested _ _ _ d (sym e)).0 in
+      let l = leb-true 16 (length (drop i p)) (ensure_then _ _ _ d (sym e)).0 in
       record {
         within = omega (arith, length-drop i p, a.within);
         gives =
@@ -84,13 +84,13 @@ module _ (p : List ℕ) (ds : List Variable) (count k : ℕ) (h : k < count) (a 
 -- Where n declarations are read, there are n of them, and what follows them are the bytes from 16 n on.
 pub declarations_counted : (n e : ℕ) (bs : List ℕ) (r : List Variable × List ℕ) → read_declarations n e bs ≡ Ok r → (length r.0 ≡ n) × (r.1 ≡ drop (16 * n) bs)
 declarations_counted zero e bs r h =
-    let k = same_value ([], bs) r h in
+    let k = same_ok h in
     (sym (ap (λ (q : Several). length q.0) k), sym (ap (λ (q : Several). q.1) k))
 declarations_counted (suc n) e bs r h =
-    let z = row_first (first_declaration e bs) _ r (sym (first_alone n e bs) ∙ h) in
-    let y = row_first (read_declarations n e (drop 16 bs)) (with_first z.0) r z.1 in
-    let k = same_value _ r y.1 in
-    let t = declarations_counted n e (drop 16 bs) y.0 y.2 in
+    let z = ok_then (first_declaration e bs) _ r (sym (first_alone n e bs) ∙ h) in
+    let y = ok_then (read_declarations n e (drop 16 bs)) (with_first z.0) r z.2 in
+    let k = same_ok y.2 in
+    let t = declarations_counted n e (drop 16 bs) y.0 y.1 in
     let m : 16 + 16 * n ≡ 16 * suc n = omega arith in
     (sym (ap (λ (q : Several). length q.0) k) ∙ ap suc t.0, sym (ap (λ (q : Several). q.1) k) ∙ t.1 ∙ drop-drop (16 * n) 16 bs ∙ ap (λ i. drop i bs) m)
 
@@ -98,7 +98,7 @@ declarations_counted (suc n) e bs r h =
 pub declarations_within : (n e : ℕ) (bs : List ℕ) (r : List Variable × List ℕ) → read_declarations n e bs ≡ Ok r → 16 * n ≤ length bs
 declarations_within zero e bs r h = omega arith
 declarations_within (suc n) e bs r h =
-    let z = row_first (first_declaration e bs) _ r (sym (first_alone n e bs) ∙ h) in
-    let y = row_first (read_declarations n e (drop 16 bs)) (with_first z.0) r z.1 in
-    let l = leb-true 16 (length bs) (tested _ _ _ z.0 z.2).0 in
-    omega (arith, declarations_within n e (drop 16 bs) y.0 y.2, length-drop 16 bs)
+    let z = ok_then (first_declaration e bs) _ r (sym (first_alone n e bs) ∙ h) in
+    let y = ok_then (read_declarations n e (drop 16 bs)) (with_first z.0) r z.2 in
+    let l = leb-true 16 (length bs) (ensure_then _ _ _ z.0 z.1).0 in
+    omega (arith, declarations_within n e (drop 16 bs) y.0 y.1, length-drop 16 bs)

@@ -1,5 +1,5 @@
 -- What the declarations of a program say of loading it.
-use Rattle.std.proofs.Common.{◌≡◌, ℕ, suc, ◌+◌, ◌*◌, ◌≤◌, Bool, true, false, ◌&&◌, leb, List, [], ◌∷◌, length, drop, Ok, Err, Result, sym, ap, ◌∙◌, arith}
+use Rattle.std.proofs.Common.{◌≡◌, ℕ, suc, ◌+◌, ◌*◌, ◌≤◌, true, ◌&&◌, leb, List, [], ◌∷◌, length, drop, Ok, Err, Result, sym, ap, ◌∙◌, arith}
 use Rattle.std.proofs.lemmas.Bool.{leb-true, and_parts}
 use Rattle.evaluator.specs.Rates.{most_variables}
 use Rattle.rules.specs.Outcomes.{◌>>=◌, ensure}
@@ -9,37 +9,30 @@ use Rattle.rules.specs.Text.{Program, arms}
 use Rattle.rules.specs.declared.program.Variable.{Variable}
 use Rattle.rules.specs.declared.faults.LoadFault.{LoadFault}
 use Rattle.rules.specs.declared.faults.LoadFault.TheVariants.{BadLength, TooManyVariables, TickTooLong}
+use Rattle.rules.proofs.Results.{not_both, goes_on, same_ok, ensure_then, ok_then, refused_again}
 use Rattle.declarations.specs.Listing.{declarations_first, declarations_in, read_main}
-use Rattle.declarations.proofs.Results.{no_result, same_value, tested, row_first}
 use Rattle.declarations.proofs.InOrder.{Several, declarations_counted, declarations_within}
 
 -- The declarations alone, of what is read.
 abbrev alone : Several → Result (List Variable) LoadFault
 alone q = Ok q.0
 
-module _ {B : Type 0} (go : Several → Result B LoadFault) (f : LoadFault) where
-  -- Where declarations are refused, what follows them is too.
-  refused_row : (r : Result Several LoadFault) → (r >>= alone) ≡ Err f → (r >>= go) ≡ Err f
-  refused_row (Ok q) h = no_result (sym h)
-  refused_row (Err g) h = cc
-
--- The same behind a test.
-refused_test : {A B : Type 0} (b : Bool) (g f : LoadFault) (r : Result A LoadFault) (s : Result B LoadFault) → (r ≡ Err f → s ≡ Err f) → (ensure b g >>= λ _. r) ≡ Err f → (ensure b g >>= λ _. s) ≡ Err f
-refused_test true g f r s k h = k h
-refused_test false g f r s k h = cc
-
 -- A refusal behind the test of the length is the refusal of loading.
 all_refused : (e : ℕ) (p : List ℕ) (f : LoadFault) → declarations_first e p ≡ Err f → read_all e p ≡ Err f
 all_refused e [] f h = cc
-all_refused e (n ∷ bs) f h = refused_test (leb n most_variables) TooManyVariables f (read_declarations n e bs >>= alone) _ (refused_row _ f (read_declarations n e bs)) h
+all_refused e (n ∷ bs) f h =
+    refused_again (ensure (leb n most_variables) TooManyVariables) _ _ _ f (λ r. r)
+    (λ _ t q. goes_on _ t (refused_again (read_declarations n e bs) _ _ _ f (λ r. r) (λ _ _ no. not_both (sym no)) q)) h
 
 -- Where the declarations of a program are refused, loading refuses it with the same fault.
 pub read_refused : (p : List ℕ) (f : LoadFault) → declarations_in p ≡ Err f → read p ≡ Err f
-read_refused p f h = refused_test (leb 1 (length p) && leb (length p) most_bytes) BadLength f (declarations_first (length p) p) (read_all (length p) p) (all_refused (length p) p f) h
+read_refused p f h =
+    refused_again (ensure (leb 1 (length p) && leb (length p) most_bytes) BadLength) _ _ _ f (λ r. r)
+    (λ _ t q. goes_on _ t (all_refused (length p) p f q)) h
 
 -- Where the declarations alone are a result, they were read.
 alone_read : (r : Result Several LoadFault) (ds : List Variable) → (r >>= alone) ≡ Ok ds → (q : Several) × (r ≡ Ok q) × (q.0 ≡ ds)
-alone_read r ds h = let z = row_first r alone ds h in (z.0, z.2, same_value z.0.0 ds z.1)
+alone_read r ds h = let z = ok_then r alone ds h in (z.0, z.1, same_ok z.2)
 
 -- A program whose declarations are read: its length, how many it declares, and what loading it goes on with.
 pub record Declares (p : List ℕ) (ds : List Variable) : Type 0 where
@@ -68,7 +61,7 @@ module _ (e n : ℕ) (bs : List ℕ) (ds : List Variable) where
   -- The same from the declarations.
   count_first : declarations_first e (n ∷ bs) ≡ Ok ds → (length ds ≡ n) × (n ≤ 32) × (16 * n ≤ length bs) × (read_all e (n ∷ bs) ≡ read_main e ds (drop (16 * n) bs))
   count_first h =
-      let t = tested (leb n most_variables) TooManyVariables (read_declarations n e bs >>= alone) ds h in
+      let t = ensure_then (leb n most_variables) TooManyVariables (λ _. read_declarations n e bs >>= alone) ds h in
       let y = alone_read (read_declarations n e bs) ds t.1 in
       let k = declarations_counted n e bs y.0 y.1 in
       let c : length ds ≡ n = ap length (sym y.2) ∙ k.0 in
@@ -76,10 +69,10 @@ module _ (e n : ℕ) (bs : List ℕ) (ds : List Variable) where
 
 -- Where the declarations of a program are read, loading goes on behind them.
 pub read_onward : (p : List ℕ) (ds : List Variable) → declarations_in p ≡ Ok ds → Declares p ds
-read_onward [] ds h = no_result h
+read_onward [] ds h = not_both h
 read_onward (n ∷ bs) ds h =
     let e = suc (length bs) in
-    let t = tested (leb 1 e && leb e most_bytes) BadLength (declarations_first e (n ∷ bs)) ds h in
+    let t = ensure_then (leb 1 e && leb e most_bytes) BadLength (λ _. declarations_first e (n ∷ bs)) ds h in
     let m = leb-true e 4096 (and_parts (leb 1 e) (leb e most_bytes) t.0).1 in
     let k = count_first e n bs ds t.1 in
     let o : 1 + 16 * length ds ≡ suc (16 * n) = omega (arith, k.0) in

@@ -10,11 +10,11 @@ use Rattle.rules.specs.Text.{Stmt, Block}
 use Rattle.rules.specs.declared.faults.LoadFault.{LoadFault}
 use Rattle.rules.specs.declared.faults.LoadFault.TheVariants.{Statement}
 use Rattle.rules.specs.declared.program.Variable.{Variable}
-use Rattle.rules.proofs.Results.{goes_on, ok_then, same_ok}
+use Rattle.rules.proofs.Results.{goes_on, ok_then, same_ok, refused_again}
 use Rattle.loading.proofs.Alike.{Alike, alike_self, alike_first, alike_rest, alike_all}
 use Rattle.loading.proofs.Heads.{PartsAlike, HeadAlike, head_alike}
 use Rattle.loading.proofs.Late.{head_late}
-use Rattle.loading.proofs.Refused.{no_ok, Only, only_ok, only_refused, only_then, only_weaker, Related, refused_both, accepted_both, related_refused, refused_again}
+use Rattle.loading.proofs.Refused.{no_ok, Only, only_ok, only_refused, only_then, only_weaker, Related, refused_both, accepted_both, related_refused}
 
 -- A fault stands at place s or after it.
 abbrev pub Since : ℕ → LoadFault → Type 0

@@ -13,6 +13,10 @@ module _ {A E : Type 0} where
   pub same_ok : {a b : A} → ◌≡◌ {A = Result A E} (Ok a) (Ok b) → a ≡ b
   same_ok {a} {b} h = cc
 
+  -- Equal refused results hold the same refusal.
+  pub same_err : {e f : E} → ◌≡◌ {A = Result A E} (Err e) (Err f) → e ≡ f
+  same_err {e} {f} h = cc
+
   -- A value that is there is accepted.
   pub some_ok : {o : Option A} (e : E) {a : A} → o ≡ Some a → from_some o e ≡ Ok a
   some_ok e h = ap (λ o. from_some o e) h
@@ -31,6 +35,12 @@ module _ {A B E : Type 0} where
   pub some_then : (o : Option A) (e : E) (f : A → Result B E) (b : B) → (from_some o e >>= f) ≡ Ok b → (a : A) × (o ≡ Some a) × (f a ≡ Ok b)
   some_then (Some a) e f b h = (a, refl, h)
   some_then None e f b h = not_both h
+
+module _ {A B C E : Type 0} where
+  -- A second row is refused as the first, if its first part is refused where that of the first is, and accepted alike where the first is refused later.
+  pub refused_again : (r r' : Result A E) (g : A → Result B E) (g' : A → Result C E) (f : E) → (r ≡ Err f → r' ≡ Err f) → ((a : A) → r ≡ Ok a → g a ≡ Err f → (r' >>= g') ≡ Err f) → (r >>= g) ≡ Err f → (r' >>= g') ≡ Err f
+  refused_again (Ok a) r' g g' f now later h = later a refl h
+  refused_again (Err e) r' g g' f now later h = let k : e ≡ f = same_err h in ap (λ q. q >>= g') (now (ap Err k))
 
 module _ {E : Type 0} where
   -- A test that holds is accepted.

@@ -65,21 +65,21 @@ module _ (p : List ℕ) (ds : List Variable) (n i : ℕ) (a : Ahead p ds (suc n)
   one_refused : (f : LoadFault) → Err f ≡ first_declaration (length p) (drop i p) → Err f ≡ declarations_in p
   one_refused f e = ap (λ r. behind ds (r >>= λ d. read_declarations n (length p) (drop 16 (drop i p)) >>= with_first d)) e ∙ sym (ap (behind ds) (first_alone n (length p) (drop i p))) ∙ a.gives
 
-module _ (p : List ℕ) (ds : List Variable) (count k : ℕ) (h : k < count) (a : Ahead p ds (count - k) (1 + 16 * k)) where
+module _ (p : List ℕ) (ds : List Variable) (count k : ℕ) (h : k < count) (a : Ahead p ds (count - k) (1 + 16 * k)) (i : ℕ) (at : i ≡ 1 + 16 * k) where
   -- Of the declarations that are left, one is the next.
-  one_next : Ahead p ds (suc (count - (k + 1))) (1 + 16 * k)
-  one_next = let e : count - k ≡ suc (count - (k + 1)) = omega arith in subst (λ n. Ahead p ds n (1 + 16 * k)) e a
+  one_next : Ahead p ds (suc (count - (k + 1))) i
+  one_next = let e : count - k ≡ suc (count - (k + 1)) = omega arith in subst (λ n. Ahead p ds n i) e (subst (Ahead p ds (count - k)) (sym at) a)
 
   -- A turn that reads a declaration.
-  pub turn_read : (d : Variable) (es : List Variable) → Ok d ≡ first_declaration (length p) (drop (1 + 16 * k) p) → es ≡ ds ++ d ∷ [] → Ahead p es (count - (k + 1)) (1 + 16 * (k + 1))
+  pub turn_read : (d : Variable) (es : List Variable) → Ok d ≡ first_declaration (length p) (drop i p) → es ≡ ds ++ d ∷ [] → Ahead p es (count - (k + 1)) (1 + 16 * (k + 1))
   turn_read d es e m =
-      let i : 1 + 16 * k + 16 ≡ 1 + 16 * (k + 1) = omega arith in
+      let j : i + 16 ≡ 1 + 16 * (k + 1) = omega arith in
       let n = count - (k + 1) in
-      subst (λ l. Ahead p l n (1 + 16 * (k + 1))) (sym m) (subst (Ahead p (ds ++ d ∷ []) n) i (one_read p ds n (1 + 16 * k) one_next d e))
+      subst (λ l. Ahead p l n (1 + 16 * (k + 1))) (sym m) (subst (Ahead p (ds ++ d ∷ []) n) j (one_read p ds n i one_next d e))
 
   -- A turn that refuses one.
-  pub turn_refused : (f : LoadFault) → Err f ≡ first_declaration (length p) (drop (1 + 16 * k) p) → Err f ≡ declarations_in p
-  turn_refused = one_refused p ds (count - (k + 1)) (1 + 16 * k) one_next
+  pub turn_refused : (f : LoadFault) → Err f ≡ first_declaration (length p) (drop i p) → Err f ≡ declarations_in p
+  turn_refused = one_refused p ds (count - (k + 1)) i one_next
 
 -- Where n declarations are read, there are n of them, and what follows them are the bytes from 16 n on.
 pub declarations_counted : (n e : ℕ) (bs : List ℕ) (r : List Variable × List ℕ) → read_declarations n e bs ≡ Ok r → (length r.0 ≡ n) × (r.1 ≡ drop (16 * n) bs)

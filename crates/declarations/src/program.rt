@@ -12,7 +12,7 @@ use evaluator::rate::MOST_VARIABLES;
 use rules::faults::{LoadFault, ReadingFault};
 use rules::program::MOST_BYTES;
 
-// The place of the declaration of a number: behind the count, and behind the declarations before it.
+// The place of a declaration by its number: behind the count and the declarations before it.
 fn place_of(number: usize) -> usize
     requires { number < 32 }
     ensures { result ≡ 1 + 16 * number }

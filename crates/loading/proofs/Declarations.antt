@@ -1,13 +1,11 @@
 -- Declarations: what is written is read, and what is read was written and keeps the rules.
-use Rattle.std.proofs.Common.{◌≡◌, ℕ, zero, suc, ◌+◌, Bool, true, false, ◌&&◌, T, ltb, leb, List, [], ◌∷◌, ◌++◌, length, take, drop, ◌≤ℤ◌, Some, Ok, sym, refl, ap, ◌∙◌, subst, append_assoc, arith, length-append, take-append-drop, length-take, w32, SFits}
+use Rattle.std.proofs.Common.{◌≡◌, ℕ, zero, suc, ◌+◌, Bool, true, false, ◌&&◌, T, ltb, leb, List, [], ◌∷◌, ◌++◌, length, take, drop, ◌≤ℤ◌, Ok, sym, refl, ap, ◌∙◌, subst, append_assoc, arith, length-append, take-append-drop, length-take, w32, SFits}
 use lib.Signed.{le_z}
 use Rattle.std.specs.List.{AllByRecursion as All}
 use Rattle.std.proofs.ByRecursion.{All-take, All-drop}
 use Rattle.std.proofs.lemmas.List.{take_at, drop_at}
 use Rattle.std.proofs.lemmas.Bool.{leb-true, ltb-true, le-leb, lt-ltb, and_from, and_parts}
 use Rattle.arithmetic.specs.Operators.{combining_number}
-use Rattle.arithmetic.specs.declared.operators.Combining.{Combining}
-use Rattle.arithmetic.specs.declared.operators.Combining.TheVariants.{Sum, Least, Greatest, Left}
 use Rattle.evaluator.specs.Commands.{signed_of}
 use Rattle.evaluator.proofs.Reading.{Bytes, signed_back, signed_fits, signed_bytes_back}
 use Rattle.rules.specs.Encoding.{kind_number, policy_number, declaration_bytes, declarations_bytes}
@@ -15,33 +13,14 @@ use Rattle.rules.specs.Outcomes.{numbered}
 use Rattle.rules.specs.Reading.{kinds, policies, combinings, zeros_right, read_declaration, read_declarations, owners_live}
 use Rattle.rules.specs.Valid.{Declared}
 use Rattle.rules.specs.declared.faults.LoadFault.{LoadFault}
-use Rattle.rules.specs.declared.program.Kind.{Kind}
-use Rattle.rules.specs.declared.program.Policy.{Policy}
 use Rattle.rules.specs.declared.program.Variable.{Variable}
+use Rattle.rules.proofs.Numbers.{kind_found, policy_found, operator_found}
 use Rattle.rules.proofs.Results.{goes_on, ok_then, some_ok, some_then, ensure_ok, ensure_then, same_ok, has_number}
 
 -- A test that holds is true.
 is_true : (b : Bool) → T b → b ≡ true
 is_true true h = refl
 is_true false h = absurd h
-
--- Each kind, policy and operator is found by its number.
-kind_back : (k : Kind) → numbered kind_number kinds (kind_number k) ≡ Some k
-kind_back Kind.Input = refl
-kind_back Kind.Private = refl
-kind_back Kind.Shared = refl
-kind_back Kind.Output = refl
-
-policy_back : (k : Policy) → numbered policy_number policies (policy_number k) ≡ Some k
-policy_back Policy.All = refl
-policy_back Policy.New = refl
-policy_back Policy.Mod = refl
-
-operator_back : (k : Combining) → numbered combining_number combinings (combining_number k) ≡ Some k
-operator_back Sum = refl
-operator_back Least = refl
-operator_back Greatest = refl
-operator_back Left = refl
 
 -- What reading tells of one declaration; of its owner only all bytes tell.
 pub record Made (bs : List ℕ) (d : Variable) : Type 0 where
@@ -97,9 +76,9 @@ module _ (f : LoadFault) (d : Variable) where
 declaration_back : (f : LoadFault) (n : ℕ) (d : Variable) → Declared n d → read_declaration f (declaration_bytes d) ≡ Ok d
 declaration_back f n d h =
     let i = signed_back d.initial h.initial_fits in let l = signed_back d.low h.low_fits in let u = signed_back d.high h.high_fits in
-    goes_on _ (some_ok f (kind_back d.kind))
-    (goes_on _ (some_ok f (policy_back d.policy))
-    (goes_on _ (some_ok f (operator_back d.operator))
+    goes_on _ (some_ok f (kind_found d.kind))
+    (goes_on _ (some_ok f (policy_found d.policy))
+    (goes_on _ (some_ok f (operator_found d.operator))
     (goes_on _ (ensure_ok f h.zeros)
     (goes_on _ (ensure_ok f ((λ j. le_z (l j) (i j) && le_z (i j) (u j)) ∙ and_from _ _ (is_true _ h.not_under.le) (is_true _ h.not_over.le)))
     (λ j. Ok (record { kind = d.kind; policy = d.policy; operator = d.operator; owner = d.owner; initial = i j; low = l j; high = u j }))))))

@@ -11,7 +11,7 @@ use Rattle.rules.specs.declared.faults.LoadFault.{LoadFault}
 use Rattle.rules.specs.declared.faults.LoadFault.TheVariants.{BadLength, TooManyVariables, TickTooLong}
 use Rattle.rules.proofs.Results.{not_both, goes_on, same_ok, ensure_then, ok_then, refused_again}
 use Rattle.declarations.specs.Listing.{declarations_first, declarations_in, read_main}
-use Rattle.declarations.proofs.InOrder.{Several, declarations_counted, declarations_within}
+use Rattle.declarations.proofs.InOrder.{Several, declarations_counted}
 
 -- The declarations alone, of what is read.
 abbrev alone : Several → Result (List Variable) LoadFault
@@ -64,8 +64,8 @@ module _ (e n : ℕ) (bs : List ℕ) (ds : List Variable) where
       let t = ensure_then (leb n most_variables) TooManyVariables (λ _. read_declarations n e bs >>= alone) ds h in
       let y = alone_read (read_declarations n e bs) ds t.1 in
       let k = declarations_counted n e bs y.0 y.1 in
-      let c : length ds ≡ n = ap length (sym y.2) ∙ k.0 in
-      (c, leb-true n 32 t.0, declarations_within n e bs y.0 y.1, behind_count y.0 t.0 y.1 y.2 k.1 (sym c))
+      let c : length ds ≡ n = ap length (sym y.2) ∙ k.count in
+      (c, leb-true n 32 t.0, k.within, behind_count y.0 t.0 y.1 y.2 k.after (sym c))
 
 -- Where the declarations of a program are read, loading goes on behind them.
 pub read_onward : (p : List ℕ) (ds : List Variable) → declarations_in p ≡ Ok ds → Declares p ds

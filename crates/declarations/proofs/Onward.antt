@@ -1,5 +1,5 @@
 -- What the declarations of a program say of loading it.
-use Rattle.std.proofs.Common.{◌≡◌, ℕ, suc, ◌+◌, ◌*◌, ◌≤◌, true, ◌&&◌, leb, List, [], ◌∷◌, length, drop, Ok, Err, Result, sym, ap, ◌∙◌, arith}
+use Rattle.std.proofs.Common.{◌≡◌, ℕ, suc, ◌+◌, ◌*◌, ◌≤◌, ◌&&◌, leb, List, [], ◌∷◌, length, drop, Ok, Err, Result, sym, ap, ◌∙◌, arith}
 use Rattle.std.proofs.lemmas.Bool.{leb-true, and_parts}
 use Rattle.evaluator.specs.Rates.{most_variables}
 use Rattle.rules.specs.Outcomes.{◌>>=◌, ensure}
@@ -9,7 +9,7 @@ use Rattle.rules.specs.Text.{Program, arms}
 use Rattle.rules.specs.declared.program.Variable.{Variable}
 use Rattle.rules.specs.declared.faults.LoadFault.{LoadFault}
 use Rattle.rules.specs.declared.faults.LoadFault.TheVariants.{BadLength, TooManyVariables, TickTooLong}
-use Rattle.rules.proofs.Results.{not_both, goes_on, same_ok, ensure_then, ok_then, refused_again}
+use Rattle.rules.proofs.Results.{not_both, goes_on, ensure_ok, same_ok, ensure_then, ok_then, refused_again}
 use Rattle.declarations.specs.Listing.{declarations_first, declarations_in, read_main}
 use Rattle.declarations.proofs.InOrder.{Several, declarations_counted}
 
@@ -30,10 +30,6 @@ read_refused p f h =
     refused_again (ensure (leb 1 (length p) && leb (length p) most_bytes) BadLength) _ _ _ f (λ r. r)
     (λ _ t q. goes_on _ t (all_refused (length p) p f q)) h
 
--- Where the declarations alone are a result, they were read.
-alone_read : (r : Result Several LoadFault) (ds : List Variable) → (r >>= alone) ≡ Ok ds → (q : Several) × (r ≡ Ok q) × (q.0 ≡ ds)
-alone_read r ds h = let z = ok_then r alone ds h in (z.0, z.1, same_ok z.2)
-
 -- A program whose declarations are read: its length, how many it declares, and what loading it goes on with.
 pub record Declares (p : List ℕ) (ds : List Variable) : Type 0 where
   pub short : length p ≤ 4096
@@ -50,22 +46,27 @@ going_on e n q = do
   _ ← ensure (leb (block_length B + 1) longest_tick) TickTooLong
   Ok (record { variables = q.0; main = B })
 
-module _ (e n : ℕ) (bs : List ℕ) (ds : List Variable) where
-  -- The bytes behind the count, where the declarations in them are read.
-  behind_count : (q : Several) → leb n most_variables ≡ true → read_declarations n e bs ≡ Ok q → q.0 ≡ ds → q.1 ≡ drop (16 * n) bs → n ≡ length ds → read_all e (n ∷ bs) ≡ read_main e ds (drop (16 * n) bs)
-  behind_count q b r d z c =
-      ap (λ x. ensure x TooManyVariables >>= λ _. read_declarations n e bs >>= going_on e n) b
-      ∙ ap (λ x. x >>= going_on e n) r
-      ∙ (λ i. going_on e (c i) (d i, z i))
+-- Behind a count of n, declarations are read: how many, within the bytes, and what loading goes on with.
+record Counts (e n : ℕ) (bs : List ℕ) (ds : List Variable) : Type 0 where
+  count : length ds ≡ n
+  few : n ≤ 32
+  within : 16 * n ≤ length bs
+  onward : read_all e (n ∷ bs) ≡ read_main e ds (drop (16 * n) bs)
 
-  -- The same from the declarations.
-  count_first : declarations_first e (n ∷ bs) ≡ Ok ds → (length ds ≡ n) × (n ≤ 32) × (16 * n ≤ length bs) × (read_all e (n ∷ bs) ≡ read_main e ds (drop (16 * n) bs))
-  count_first h =
-      let t = ensure_then (leb n most_variables) TooManyVariables (λ _. read_declarations n e bs >>= alone) ds h in
-      let y = alone_read (read_declarations n e bs) ds t.1 in
-      let k = declarations_counted n e bs y.0 y.1 in
-      let c : length ds ≡ n = ap length (sym y.2) ∙ k.count in
-      (c, leb-true n 32 t.0, k.within, behind_count y.0 t.0 y.1 y.2 k.after (sym c))
+-- Declarations that are read behind a count are as many.
+counted : (e n : ℕ) (bs : List ℕ) (ds : List Variable) → declarations_first e (n ∷ bs) ≡ Ok ds → Counts e n bs ds
+counted e n bs ds h =
+    let t = ensure_then (leb n most_variables) TooManyVariables (λ _. read_declarations n e bs >>= alone) ds h in
+    let y = ok_then (read_declarations n e bs) alone ds t.1 in
+    let same : y.0.0 ≡ ds = same_ok y.2 in
+    let k = declarations_counted n e bs y.0 y.1 in
+    let c : length ds ≡ n = ap length (sym same) ∙ k.count in
+    record {
+      count = c;
+      few = leb-true n 32 t.0;
+      within = k.within;
+      onward = goes_on _ (ensure_ok _ t.0) (goes_on _ y.1 (λ i. going_on e (sym c i) (same i, k.after i)));
+    }
 
 -- Where the declarations of a program are read, loading goes on behind them.
 pub read_onward : (p : List ℕ) (ds : List Variable) → declarations_in p ≡ Ok ds → Declares p ds
@@ -73,15 +74,11 @@ read_onward [] ds h = not_both h
 read_onward (n ∷ bs) ds h =
     let e = suc (length bs) in
     let t = ensure_then (leb 1 e && leb e most_bytes) BadLength (λ _. declarations_first e (n ∷ bs)) ds h in
-    let m = leb-true e 4096 (and_parts (leb 1 e) (leb e most_bytes) t.0).1 in
-    let k = count_first e n bs ds t.1 in
-    let o : 1 + 16 * length ds ≡ suc (16 * n) = omega (arith, k.0) in
+    let k = counted e n bs ds t.1 in
+    let o : 1 + 16 * length ds ≡ suc (16 * n) = omega (arith, k.count) in
     record {
-      short = m;
-      few = omega (arith, k.0, k.1);
-      within = omega (arith, k.0, k.2);
-      onward =
-          ap (λ x. ensure x BadLength >>= λ _. read_all e (n ∷ bs)) t.0
-          ∙ k.3
-          ∙ ap (λ i. read_main e ds (drop i (n ∷ bs))) (sym o);
+      short = leb-true e 4096 (and_parts (leb 1 e) (leb e most_bytes) t.0).1;
+      few = omega (arith, k.count, k.few);
+      within = omega (arith, k.count, k.within);
+      onward = goes_on _ (ensure_ok _ t.0) k.onward ∙ ap (λ i. read_main e ds (drop i (n ∷ bs))) (sym o);
     }

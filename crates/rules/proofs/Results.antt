@@ -7,15 +7,15 @@ use Rattle.rules.specs.Outcomes.{◌>>=◌, ensure, from_some, refused_as, numbe
 module _ {A E : Type 0} where
   -- No result is both refused and accepted.
   pub not_both : {e : E} {a : A} {P : Type 0} → ◌≡◌ {A = Result A E} (Err e) (Ok a) → P
-  not_both {e} {a} h = let z : ◌≡◌ {A = ℕ} 0 1 = cc in absurd (omega arith)
+  not_both h = absurd (grind arith)
 
   -- Equal accepted results hold the same value.
   pub same_ok : {a b : A} → ◌≡◌ {A = Result A E} (Ok a) (Ok b) → a ≡ b
-  same_ok {a} {b} h = cc
+  same_ok h = cc
 
   -- Equal refused results hold the same refusal.
   pub same_err : {e f : E} → ◌≡◌ {A = Result A E} (Err e) (Err f) → e ≡ f
-  same_err {e} {f} h = cc
+  same_err h = cc
 
   -- A value that is there is accepted.
   pub some_ok : {o : Option A} (e : E) {a : A} → o ≡ Some a → from_some o e ≡ Ok a

@@ -8,8 +8,8 @@ use Rattle.rules.specs.declared.program.Variable.{Variable}
 use Rattle.rules.specs.declared.faults.LoadFault.{LoadFault}
 use Rattle.rules.specs.declared.faults.LoadFault.TheVariants.{CutDeclaration, BadDeclaration}
 use Rattle.rules.specs.declared.faults.ReadingFault.TheVariants.{Cut}
+use Rattle.rules.proofs.Results.{same_ok, ensure_then, ok_then}
 use Rattle.declarations.specs.Listing.{first_declaration, declarations_in}
-use Rattle.declarations.proofs.Results.{same_value, tested, row_first}
 
 -- Declarations, and the bytes after them.
 abbrev pub Several : Type 0
@@ -47,58 +47,57 @@ pub record Ahead (p : List ℕ) (ds : List Variable) (n i : ℕ) : Type 0 where
   pub gives : behind ds (read_declarations n (length p) (drop i p)) ≡ declarations_in p
 
 module _ (p : List ℕ) (ds : List Variable) (n i : ℕ) (a : Ahead p ds (suc n) i) where
+  -- What is read of the next declaration decides.
+  next_decides : (r : Result Variable LoadFault) → r ≡ first_declaration (length p) (drop i p) → behind ds (r >>= λ d. read_declarations n (length p) (drop 16 (drop i p)) >>= with_first d) ≡ declarations_in p
+  next_decides r e =
+      ap (λ r. behind ds (r >>= λ d. read_declarations n (length p) (drop 16 (drop i p)) >>= with_first d)) e
+      ∙ sym (ap (behind ds) (first_alone n (length p) (drop i p)))
+      ∙ a.gives
+
   -- The next declaration is read.
   one_read : (d : Variable) → Ok d ≡ first_declaration (length p) (drop i p) → Ahead p (ds ++ d ∷ []) n (i + 16)
   one_read d e =
-      let l = leb-true 16 (length (drop i p)) (tested _ _ _ d (sym e)).0 in
+      let l = leb-true 16 (length (drop i p)) (ensure_then _ _ _ d (sym e)).0 in
       record {
         within = omega (arith, length-drop i p, a.within);
         gives =
             ap (λ l. behind (ds ++ d ∷ []) (read_declarations n (length p) l)) (sym (drop-drop 16 i p))
             ∙ sym (between ds d (read_declarations n (length p) (drop 16 (drop i p))))
-            ∙ ap (λ r. behind ds (r >>= λ d. read_declarations n (length p) (drop 16 (drop i p)) >>= with_first d)) e
-            ∙ sym (ap (behind ds) (first_alone n (length p) (drop i p)))
-            ∙ a.gives;
+            ∙ next_decides (Ok d) e;
       }
 
-  -- The next declaration is refused, and so are all.
-  one_refused : (f : LoadFault) → Err f ≡ first_declaration (length p) (drop i p) → Err f ≡ declarations_in p
-  one_refused f e = ap (λ r. behind ds (r >>= λ d. read_declarations n (length p) (drop 16 (drop i p)) >>= with_first d)) e ∙ sym (ap (behind ds) (first_alone n (length p) (drop i p))) ∙ a.gives
-
-module _ (p : List ℕ) (ds : List Variable) (count k : ℕ) (h : k < count) (a : Ahead p ds (count - k) (1 + 16 * k)) where
+module _ (p : List ℕ) (ds : List Variable) (count k : ℕ) (h : k < count) (a : Ahead p ds (count - k) (1 + 16 * k)) (i : ℕ) (at : i ≡ 1 + 16 * k) where
   -- Of the declarations that are left, one is the next.
-  one_next : Ahead p ds (suc (count - (k + 1))) (1 + 16 * k)
-  one_next = let e : count - k ≡ suc (count - (k + 1)) = omega arith in subst (λ n. Ahead p ds n (1 + 16 * k)) e a
+  one_next : Ahead p ds (suc (count - (k + 1))) i
+  one_next = let e : count - k ≡ suc (count - (k + 1)) = omega arith in subst (λ n. Ahead p ds n i) e (subst (Ahead p ds (count - k)) (sym at) a)
 
   -- A turn that reads a declaration.
-  pub turn_read : (d : Variable) (es : List Variable) → Ok d ≡ first_declaration (length p) (drop (1 + 16 * k) p) → es ≡ ds ++ d ∷ [] → Ahead p es (count - (k + 1)) (1 + 16 * (k + 1))
+  pub turn_read : (d : Variable) (es : List Variable) → Ok d ≡ first_declaration (length p) (drop i p) → es ≡ ds ++ d ∷ [] → Ahead p es (count - (k + 1)) (1 + 16 * (k + 1))
   turn_read d es e m =
-      let i : 1 + 16 * k + 16 ≡ 1 + 16 * (k + 1) = omega arith in
+      let j : i + 16 ≡ 1 + 16 * (k + 1) = omega arith in
       let n = count - (k + 1) in
-      subst (λ l. Ahead p l n (1 + 16 * (k + 1))) (sym m) (subst (Ahead p (ds ++ d ∷ []) n) i (one_read p ds n (1 + 16 * k) one_next d e))
+      subst (λ l. Ahead p l n (1 + 16 * (k + 1))) (sym m) (subst (Ahead p (ds ++ d ∷ []) n) j (one_read p ds n i one_next d e))
 
   -- A turn that refuses one.
-  pub turn_refused : (f : LoadFault) → Err f ≡ first_declaration (length p) (drop (1 + 16 * k) p) → Err f ≡ declarations_in p
-  turn_refused = one_refused p ds (count - (k + 1)) (1 + 16 * k) one_next
+  pub turn_refused : (f : LoadFault) → Err f ≡ first_declaration (length p) (drop i p) → Err f ≡ declarations_in p
+  turn_refused f = next_decides p ds (count - (k + 1)) i one_next (Err f)
 
--- Where n declarations are read, there are n of them, and what follows them are the bytes from 16 n on.
-pub declarations_counted : (n e : ℕ) (bs : List ℕ) (r : List Variable × List ℕ) → read_declarations n e bs ≡ Ok r → (length r.0 ≡ n) × (r.1 ≡ drop (16 * n) bs)
-declarations_counted zero e bs r h =
-    let k = same_value ([], bs) r h in
-    (sym (ap (λ (q : Several). length q.0) k), sym (ap (λ (q : Several). q.1) k))
+-- Where n declarations are read, they are within the bytes, there are n of them, and what follows them are the bytes from 16 n on.
+pub record Counted (n : ℕ) (bs : List ℕ) (r : Several) : Type 0 where
+  pub within : 16 * n ≤ length bs
+  pub count : length r.0 ≡ n
+  pub after : r.1 ≡ drop (16 * n) bs
+
+pub declarations_counted : (n e : ℕ) (bs : List ℕ) (r : Several) → read_declarations n e bs ≡ Ok r → Counted n bs r
+declarations_counted zero e bs r h = subst (Counted zero bs) (same_ok h) (record { within = omega arith; count = refl; after = refl })
 declarations_counted (suc n) e bs r h =
-    let z = row_first (first_declaration e bs) _ r (sym (first_alone n e bs) ∙ h) in
-    let y = row_first (read_declarations n e (drop 16 bs)) (with_first z.0) r z.1 in
-    let k = same_value _ r y.1 in
-    let t = declarations_counted n e (drop 16 bs) y.0 y.2 in
+    let z = ok_then (first_declaration e bs) _ r (sym (first_alone n e bs) ∙ h) in
+    let y = ok_then (read_declarations n e (drop 16 bs)) (with_first z.0) r z.2 in
+    let l = leb-true 16 (length bs) (ensure_then _ _ _ z.0 z.1).0 in
+    let t = declarations_counted n e (drop 16 bs) y.0 y.1 in
     let m : 16 + 16 * n ≡ 16 * suc n = omega arith in
-    (sym (ap (λ (q : Several). length q.0) k) ∙ ap suc t.0, sym (ap (λ (q : Several). q.1) k) ∙ t.1 ∙ drop-drop (16 * n) 16 bs ∙ ap (λ i. drop i bs) m)
-
--- Where n declarations are read, they are within the bytes.
-pub declarations_within : (n e : ℕ) (bs : List ℕ) (r : List Variable × List ℕ) → read_declarations n e bs ≡ Ok r → 16 * n ≤ length bs
-declarations_within zero e bs r h = omega arith
-declarations_within (suc n) e bs r h =
-    let z = row_first (first_declaration e bs) _ r (sym (first_alone n e bs) ∙ h) in
-    let y = row_first (read_declarations n e (drop 16 bs)) (with_first z.0) r z.1 in
-    let l = leb-true 16 (length bs) (tested _ _ _ z.0 z.2).0 in
-    omega (arith, declarations_within n e (drop 16 bs) y.0 y.2, length-drop 16 bs)
+    subst (Counted (suc n) bs) (same_ok y.2) (record {
+      within = omega (arith, t.within, length-drop 16 bs);
+      count = ap suc t.count;
+      after = t.after ∙ drop-drop (16 * n) 16 bs ∙ ap (λ i. drop i bs) m;
+    })

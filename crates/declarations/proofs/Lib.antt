@@ -1,4 +1,3 @@
-pub mod Results
 pub mod InOrder
 pub mod Owners
 pub mod Limits

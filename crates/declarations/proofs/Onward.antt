@@ -1,5 +1,5 @@
 -- What the declarations of a program say of loading it.
-use Rattle.std.proofs.Common.{◌≡◌, ℕ, suc, ◌+◌, ◌*◌, ◌≤◌, Bool, true, false, ◌&&◌, leb, List, [], ◌∷◌, length, drop, Ok, Err, Result, sym, ap, ◌∙◌, arith}
+use Rattle.std.proofs.Common.{◌≡◌, ℕ, suc, ◌+◌, ◌*◌, ◌≤◌, ◌&&◌, leb, List, [], ◌∷◌, length, drop, Ok, Err, Result, sym, ap, ◌∙◌, arith}
 use Rattle.std.proofs.lemmas.Bool.{leb-true, and_parts}
 use Rattle.evaluator.specs.Rates.{most_variables}
 use Rattle.rules.specs.Outcomes.{◌>>=◌, ensure}
@@ -9,37 +9,26 @@ use Rattle.rules.specs.Text.{Program, arms}
 use Rattle.rules.specs.declared.program.Variable.{Variable}
 use Rattle.rules.specs.declared.faults.LoadFault.{LoadFault}
 use Rattle.rules.specs.declared.faults.LoadFault.TheVariants.{BadLength, TooManyVariables, TickTooLong}
+use Rattle.rules.proofs.Results.{not_both, goes_on, ensure_ok, same_ok, ensure_then, ok_then, refused_again}
 use Rattle.declarations.specs.Listing.{declarations_first, declarations_in, read_main}
-use Rattle.declarations.proofs.Results.{no_result, same_value, tested, row_first}
-use Rattle.declarations.proofs.InOrder.{Several, declarations_counted, declarations_within}
+use Rattle.declarations.proofs.InOrder.{Several, declarations_counted}
 
 -- The declarations alone, of what is read.
 abbrev alone : Several → Result (List Variable) LoadFault
 alone q = Ok q.0
 
-module _ {B : Type 0} (go : Several → Result B LoadFault) (f : LoadFault) where
-  -- Where declarations are refused, what follows them is too.
-  refused_row : (r : Result Several LoadFault) → (r >>= alone) ≡ Err f → (r >>= go) ≡ Err f
-  refused_row (Ok q) h = no_result (sym h)
-  refused_row (Err g) h = cc
-
--- The same behind a test.
-refused_test : {A B : Type 0} (b : Bool) (g f : LoadFault) (r : Result A LoadFault) (s : Result B LoadFault) → (r ≡ Err f → s ≡ Err f) → (ensure b g >>= λ _. r) ≡ Err f → (ensure b g >>= λ _. s) ≡ Err f
-refused_test true g f r s k h = k h
-refused_test false g f r s k h = cc
-
 -- A refusal behind the test of the length is the refusal of loading.
 all_refused : (e : ℕ) (p : List ℕ) (f : LoadFault) → declarations_first e p ≡ Err f → read_all e p ≡ Err f
 all_refused e [] f h = cc
-all_refused e (n ∷ bs) f h = refused_test (leb n most_variables) TooManyVariables f (read_declarations n e bs >>= alone) _ (refused_row _ f (read_declarations n e bs)) h
+all_refused e (n ∷ bs) f h =
+    refused_again (ensure (leb n most_variables) TooManyVariables) _ _ _ f (λ r. r)
+    (λ _ t q. goes_on _ t (refused_again (read_declarations n e bs) _ _ _ f (λ r. r) (λ _ _ no. not_both (sym no)) q)) h
 
 -- Where the declarations of a program are refused, loading refuses it with the same fault.
 pub read_refused : (p : List ℕ) (f : LoadFault) → declarations_in p ≡ Err f → read p ≡ Err f
-read_refused p f h = refused_test (leb 1 (length p) && leb (length p) most_bytes) BadLength f (declarations_first (length p) p) (read_all (length p) p) (all_refused (length p) p f) h
-
--- Where the declarations alone are a result, they were read.
-alone_read : (r : Result Several LoadFault) (ds : List Variable) → (r >>= alone) ≡ Ok ds → (q : Several) × (r ≡ Ok q) × (q.0 ≡ ds)
-alone_read r ds h = let z = row_first r alone ds h in (z.0, z.2, same_value z.0.0 ds z.1)
+read_refused p f h =
+    refused_again (ensure (leb 1 (length p) && leb (length p) most_bytes) BadLength) _ _ _ f (λ r. r)
+    (λ _ t q. goes_on _ t (all_refused (length p) p f q)) h
 
 -- A program whose declarations are read: its length, how many it declares, and what loading it goes on with.
 pub record Declares (p : List ℕ) (ds : List Variable) : Type 0 where
@@ -57,38 +46,39 @@ going_on e n q = do
   _ ← ensure (leb (block_length B + 1) longest_tick) TickTooLong
   Ok (record { variables = q.0; main = B })
 
-module _ (e n : ℕ) (bs : List ℕ) (ds : List Variable) where
-  -- The bytes behind the count, where the declarations in them are read.
-  behind_count : (q : Several) → leb n most_variables ≡ true → read_declarations n e bs ≡ Ok q → q.0 ≡ ds → q.1 ≡ drop (16 * n) bs → n ≡ length ds → read_all e (n ∷ bs) ≡ read_main e ds (drop (16 * n) bs)
-  behind_count q b r d z c =
-      ap (λ x. ensure x TooManyVariables >>= λ _. read_declarations n e bs >>= going_on e n) b
-      ∙ ap (λ x. x >>= going_on e n) r
-      ∙ (λ i. going_on e (c i) (d i, z i))
+-- Behind a count of n, declarations are read: how many, within the bytes, and what loading goes on with.
+record Counts (e n : ℕ) (bs : List ℕ) (ds : List Variable) : Type 0 where
+  count : length ds ≡ n
+  few : n ≤ 32
+  within : 16 * n ≤ length bs
+  onward : read_all e (n ∷ bs) ≡ read_main e ds (drop (16 * n) bs)
 
-  -- The same from the declarations.
-  count_first : declarations_first e (n ∷ bs) ≡ Ok ds → (length ds ≡ n) × (n ≤ 32) × (16 * n ≤ length bs) × (read_all e (n ∷ bs) ≡ read_main e ds (drop (16 * n) bs))
-  count_first h =
-      let t = tested (leb n most_variables) TooManyVariables (read_declarations n e bs >>= alone) ds h in
-      let y = alone_read (read_declarations n e bs) ds t.1 in
-      let k = declarations_counted n e bs y.0 y.1 in
-      let c : length ds ≡ n = ap length (sym y.2) ∙ k.0 in
-      (c, leb-true n 32 t.0, declarations_within n e bs y.0 y.1, behind_count y.0 t.0 y.1 y.2 k.1 (sym c))
+-- Declarations that are read behind a count are as many.
+counted : (e n : ℕ) (bs : List ℕ) (ds : List Variable) → declarations_first e (n ∷ bs) ≡ Ok ds → Counts e n bs ds
+counted e n bs ds h =
+    let t = ensure_then (leb n most_variables) TooManyVariables (λ _. read_declarations n e bs >>= alone) ds h in
+    let y = ok_then (read_declarations n e bs) alone ds t.1 in
+    let same : y.0.0 ≡ ds = same_ok y.2 in
+    let k = declarations_counted n e bs y.0 y.1 in
+    let c : length ds ≡ n = ap length (sym same) ∙ k.count in
+    record {
+      count = c;
+      few = leb-true n 32 t.0;
+      within = k.within;
+      onward = goes_on _ (ensure_ok _ t.0) (goes_on _ y.1 (λ i. going_on e (sym c i) (same i, k.after i)));
+    }
 
 -- Where the declarations of a program are read, loading goes on behind them.
 pub read_onward : (p : List ℕ) (ds : List Variable) → declarations_in p ≡ Ok ds → Declares p ds
-read_onward [] ds h = no_result h
+read_onward [] ds h = not_both h
 read_onward (n ∷ bs) ds h =
     let e = suc (length bs) in
-    let t = tested (leb 1 e && leb e most_bytes) BadLength (declarations_first e (n ∷ bs)) ds h in
-    let m = leb-true e 4096 (and_parts (leb 1 e) (leb e most_bytes) t.0).1 in
-    let k = count_first e n bs ds t.1 in
-    let o : 1 + 16 * length ds ≡ suc (16 * n) = omega (arith, k.0) in
+    let t = ensure_then (leb 1 e && leb e most_bytes) BadLength (λ _. declarations_first e (n ∷ bs)) ds h in
+    let k = counted e n bs ds t.1 in
+    let o : 1 + 16 * length ds ≡ suc (16 * n) = omega (arith, k.count) in
     record {
-      short = m;
-      few = omega (arith, k.0, k.1);
-      within = omega (arith, k.0, k.2);
-      onward =
-          ap (λ x. ensure x BadLength >>= λ _. read_all e (n ∷ bs)) t.0
-          ∙ k.3
-          ∙ ap (λ i. read_main e ds (drop i (n ∷ bs))) (sym o);
+      short = leb-true e 4096 (and_parts (leb 1 e) (leb e most_bytes) t.0).1;
+      few = omega (arith, k.count, k.few);
+      within = omega (arith, k.count, k.within);
+      onward = goes_on _ (ensure_ok _ t.0) k.onward ∙ ap (λ i. read_main e ds (drop i (n ∷ bs))) (sym o);
     }

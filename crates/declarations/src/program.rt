@@ -1,5 +1,5 @@
 //! Reads all declarations of a program, and tests the owners that they name.
-ghost use Rattle.std.specs.Prelude.{◌≡◌, ◌≤◌, length, drop};
+ghost use Rattle.std.specs.Prelude.{◌≡◌, ◌+◌, ◌*◌, ◌<◌, ◌≤◌, length, drop};
 ghost use Rattle.evaluator.specs.Outcomes.{mapped};
 ghost use Rattle.rules.specs.Reading.{owners_live};
 ghost use Rattle.declarations.specs.Declaring.{variable_of};
@@ -11,6 +11,14 @@ use crate::reading::{DECLARATION_BYTES, declaration_in};
 use evaluator::rate::MOST_VARIABLES;
 use rules::faults::{LoadFault, ReadingFault};
 use rules::program::MOST_BYTES;
+
+// The place of a declaration by its number: behind the count and the declarations before it.
+fn place_of(number: usize) -> usize
+    requires { number < 32 }
+    ensures { result ≡ 1 + 16 * number }
+{
+    1 + DECLARATION_BYTES * number
+}
 
 // The declaration at a place of the program.
 fn declaration_at(program: &[u8], place: usize) -> Result<Declaration, LoadFault>
@@ -38,7 +46,7 @@ pub fn read_declarations(program: &[u8]) -> Result<Declarations, LoadFault>
     let mut declarations = Declarations::none();
     // By number and not by chunks of the bytes: the number gives the place, also where the bytes are cut.
     for i in 0..count {
-        declarations.push(declaration_at(program, 1 + DECLARATION_BYTES * i)?);
+        declarations.push(declaration_at(program, place_of(i))?);
     }
     Ok(declarations)
 }
@@ -47,9 +55,9 @@ pub fn read_declarations(program: &[u8]) -> Result<Declarations, LoadFault>
 pub fn owners_live(declarations: &Declarations, threads: usize) -> Result<(), LoadFault>
     ensures { result ≡ owners_live threads 1 (listed declarations.now) }
 {
-    let list = declarations.as_slice();
-    match list.iter().position(|d| d.owner() as usize >= threads) {
-        Some(i) => Err(LoadFault::BadDeclaration(1 + DECLARATION_BYTES * i)),
-        None => Ok(()),
-    }
+    let dead = declarations
+        .as_slice()
+        .iter()
+        .position(|d| d.owner() as usize >= threads);
+    dead.map_or(Ok(()), |i| Err(LoadFault::BadDeclaration(place_of(i))))
 }

@@ -11,7 +11,7 @@ use Rattle.evaluator.specs.Commands.{Command, constant, variable, operator, inve
 use Rattle.evaluator.specs.Promises.{ReadingInvertsWriting}
 
 -- Each number is below 256.
-abbrev Bytes : List ℕ → Type 0
+abbrev pub Bytes : List ℕ → Type 0
 Bytes bs = All (λ b. b < 256) bs
 
 ---------------------------------------------------------------------- four bytes
@@ -25,7 +25,7 @@ number_back : (n : ℕ) → number_of (n % 256) (n / 256 % 256) (n / 65536 % 256
 number_back n = omega arith
 
 -- The four bytes of a signed number hold that number.
-signed_back : (z : ℤ) → SFits w32 z → signed_of (of_z w32 z % 256) (of_z w32 z / 256 % 256) (of_z w32 z / 65536 % 256) (of_z w32 z / 16777216) ≡ z
+pub signed_back : (z : ℤ) → SFits w32 z → signed_of (of_z w32 z % 256) (of_z w32 z / 256 % 256) (of_z w32 z / 65536 % 256) (of_z w32 z / 16777216) ≡ z
 signed_back z f = ap (to_z w32) (number_back (of_z w32 z)) ∙ to_z-of_z w32 z f
 
 module _ (a b c d : ℕ) (p : a < 256) (q : b < 256) (r : c < 256) (s : d < 256) where
@@ -34,7 +34,7 @@ module _ (a b c d : ℕ) (p : a < 256) (q : b < 256) (r : c < 256) (s : d < 256)
   number_small = omega arith
 
   -- What four bytes hold as a signed number fits 32 bits.
-  signed_fits : SFits w32 (signed_of a b c d)
+  pub signed_fits : SFits w32 (signed_of a b c d)
   signed_fits = to_z-Fits w32 (number_of a b c d) (record { fits = number_small })
 
   -- Four bytes are those of the number that they hold.
@@ -45,7 +45,7 @@ module _ (a b c d : ℕ) (p : a < 256) (q : b < 256) (r : c < 256) (s : d < 256)
       cc
 
   -- Four bytes are those of the signed number that they hold.
-  signed_bytes_back : four_bytes (of_z w32 (signed_of a b c d)) ≡ a ∷ b ∷ c ∷ d ∷ []
+  pub signed_bytes_back : four_bytes (of_z w32 (signed_of a b c d)) ≡ a ∷ b ∷ c ∷ d ∷ []
   signed_bytes_back = ap four_bytes (of_z-to_z w32 (number_of a b c d) number_small) ∙ bytes_back
 
 ---------------------------------------------------------------------- what is written is read

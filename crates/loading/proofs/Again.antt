@@ -1,5 +1,6 @@
 -- Statements and blocks: a fault stands where they begin or after that, and is met again in alike bytes.
 use Rattle.std.proofs.Common.{◌≡◌, ℕ, zero, suc, ◌+◌, ◌-◌, ◌≤◌, List, [], ◌∷◌, length, Ok, Err, Result, sym, ap, ◌∙◌, subst, arith}
+use Rattle.evaluator.proofs.Reading.{Bytes}
 use Rattle.rules.specs.Faults.{load_place, statement_place}
 use Rattle.rules.specs.FirstFault.{longest_head}
 use Rattle.rules.specs.Forms.{build}
@@ -9,12 +10,11 @@ use Rattle.rules.specs.Text.{Stmt, Block}
 use Rattle.rules.specs.declared.faults.LoadFault.{LoadFault}
 use Rattle.rules.specs.declared.faults.LoadFault.TheVariants.{Statement}
 use Rattle.rules.specs.declared.program.Variable.{Variable}
+use Rattle.rules.proofs.Results.{goes_on, ok_then, same_ok, refused_again}
 use Rattle.loading.proofs.Alike.{Alike, alike_self, alike_first, alike_rest, alike_all}
 use Rattle.loading.proofs.Heads.{PartsAlike, HeadAlike, head_alike}
 use Rattle.loading.proofs.Late.{head_late}
-use Rattle.loading.proofs.Numbers.{Bytes}
-use Rattle.loading.proofs.Refused.{no_ok, Only, only_ok, only_refused, only_then, only_weaker, Related, refused_both, accepted_both, related_refused, refused_again}
-use Rattle.loading.proofs.Results.{bind_ok, bind_inv, same_ok}
+use Rattle.loading.proofs.Refused.{no_ok, Only, only_ok, only_refused, only_then, only_weaker, Related, refused_both, accepted_both, related_refused}
 
 -- A fault stands at place s or after it.
 abbrev pub Since : ℕ → LoadFault → Type 0
@@ -59,7 +59,7 @@ module _ (deeper : Reads) (D : FirstMet deeper) (t : ℕ) (a : Counts) (e : ℕ)
       (λ X r q.
       let second = deeper (block_thread h.form t (before_second h.form X a).threads) (before_second h.form X a) (e - length o.after) o.second in
       let le = (only_then (Since at_second) second _ (D.late _ _ at_second _ o.second P.second_bytes (omega arith)) (λ Y _. only_ok (Since at_second) _)).only f q in
-      bind_ok _ _ X (inner_kept _ _ _ _ P.at _ o.first o'.first X (omega arith) (omega arith) P.first r)
+      goes_on _ (inner_kept _ _ _ _ P.at _ o.first o'.first X (omega arith) (omega arith) P.first r)
       (refused_again second _ _ _ f
       (inner_again _ _ _ _ at_second o.second o'.second f (omega arith) P.second_bytes (omega arith) P.second)
       (λ Y _ no. no_ok no) q))
@@ -68,20 +68,20 @@ module _ (deeper : Reads) (D : FirstMet deeper) (t : ℕ) (a : Counts) (e : ℕ)
   blocks_after : (h : Head) (r : Stmt (Unit {0}) × List ℕ) → read_blocks deeper t a e h ≡ Ok r → h.parts.after ≡ r.1
   blocks_after h r y =
       let o = h.parts in
-      let y1 = bind_inv (deeper (block_thread h.form t (before_first h.form a).threads) (before_first h.form a) (e - length o.after - length o.second) o.first) _ r y in
-      let y2 = bind_inv (deeper (block_thread h.form t (before_second h.form y1.0 a).threads) (before_second h.form y1.0 a) (e - length o.after) o.second) _ r y1.2 in
+      let y1 = ok_then (deeper (block_thread h.form t (before_first h.form a).threads) (before_first h.form a) (e - length o.after - length o.second) o.first) _ r y in
+      let y2 = ok_then (deeper (block_thread h.form t (before_second h.form y1.0 a).threads) (before_second h.form y1.0 a) (e - length o.after) o.second) _ r y1.2 in
       ap (λ (q : Stmt (Unit {0}) × List ℕ). q.1) (same_ok y2.2)
 
   -- A statement whose blocks end before place m is read again where the parts are alike.
   blocks_kept : (s m : ℕ) (h : Head) (o' : Parts) (r : Stmt (Unit {0}) × List ℕ) → PartsAlike s m e h.parts o' → e - length h.parts.after ≤ m → read_blocks deeper t a e h ≡ Ok r → read_blocks deeper t a e (other h o') ≡ Ok (r.0, o'.after)
   blocks_kept s m h o' r P short y =
       let o = h.parts in let w = P.ends in let la = P.after.long in let ls = P.second.long in
-      let y1 = bind_inv (deeper (block_thread h.form t (before_first h.form a).threads) (before_first h.form a) (e - length o.after - length o.second) o.first) _ r y in
+      let y1 = ok_then (deeper (block_thread h.form t (before_first h.form a).threads) (before_first h.form a) (e - length o.after - length o.second) o.first) _ r y in
       let X = y1.0 in
-      let y2 = bind_inv (deeper (block_thread h.form t (before_second h.form X a).threads) (before_second h.form X a) (e - length o.after) o.second) _ r y1.2 in
+      let y2 = ok_then (deeper (block_thread h.form t (before_second h.form X a).threads) (before_second h.form X a) (e - length o.after) o.second) _ r y1.2 in
       let Y = y2.0 in
-      bind_ok _ _ X (inner_kept _ _ _ _ P.at m o.first o'.first X (omega arith) (omega arith) P.first y1.1)
-      (bind_ok _ _ Y (inner_kept _ _ _ _ (P.at + length o.first) m o.second o'.second Y (omega arith) (omega arith) P.second y2.1)
+      goes_on _ (inner_kept _ _ _ _ P.at m o.first o'.first X (omega arith) (omega arith) P.first y1.1)
+      (goes_on _ (inner_kept _ _ _ _ (P.at + length o.first) m o.second o'.second Y (omega arith) (omega arith) P.second y2.1)
       (ap (λ b. Ok (build h.form b h.expression X Y, o'.after)) (sym P.byte) ∙ ap (λ (q : Stmt (Unit {0}) × List ℕ). Ok (q.0, o'.after)) (same_ok y2.2)))
 
 module _ (ds : List Variable) (n : ℕ) (deeper : Reads) (D : FirstMet deeper) (t : ℕ) where
@@ -111,7 +111,7 @@ module _ (ds : List Variable) (n : ℕ) (deeper : Reads) (D : FirstMet deeper) (
   -- A statement that ends before place m is read again from alike bytes.
   statement_kept : (a : Counts) (s m e c : ℕ) (bs bs' : List ℕ) (r : Stmt (Unit {0}) × List ℕ) → Bytes bs → s + suc (length bs) ≡ e → s + longest_head ≤ m → Alike (s + 1) m bs bs' → read_statement ds n deeper t a e c bs ≡ Ok r → Kept a s m e c bs' r
   statement_kept a s m e c bs bs' r h w room l y =
-      let y0 = bind_inv (heading a e c bs) _ r y in
+      let y0 = ok_then (heading a e c bs) _ r y in
       let g = y0.0 in
       let A = accepted_both _ _ _ g (heading_alike a s m e c bs bs' h w room l) y0.1 in
       let P = A.2.parts in
@@ -125,7 +125,7 @@ module _ (ds : List Variable) (n : ℕ) (deeper : Reads) (D : FirstMet deeper) (
         bytes = subst Bytes is P.after_bytes;
         kept = λ short. (
           A.0.parts.after,
-          bind_ok _ _ A.0 A.1 (same_head a e g A.0 A.2.form A.2.expression ∙ blocks_kept deeper D t a e (s + 1) m g _ r P (omega arith) y0.2),
+          goes_on _ A.1 (same_head a e g A.0 A.2.form A.2.expression ∙ blocks_kept deeper D t a e (s + 1) m g _ r P (omega arith) y0.2),
           subst (λ x. Alike at m x A.0.parts.after) is P.after,
         );
       }
@@ -148,7 +148,7 @@ module _ (ds : List Variable) (n : ℕ) (deeper : Reads) (D : FirstMet deeper) (
       (refused_both _ _ _ f R)
       (λ g r q.
       let A = accepted_both _ _ _ g R r in
-      bind_ok _ _ A.0 A.1 (same_head a e g A.0 A.2.form A.2.expression ∙ blocks_again deeper D t a e (s + 1) f g _ A.2.parts q))
+      goes_on _ A.1 (same_head a e g A.0 A.2.form A.2.expression ∙ blocks_again deeper D t a e (s + 1) f g _ A.2.parts q))
       y
 
   -- The fault of a row of statements stands where they begin or after that.
@@ -181,7 +181,7 @@ module _ (ds : List Variable) (n : ℕ) (deeper : Reads) (D : FirstMet deeper) (
       let later = read_statements ds n deeper t fuel (after_statement r.0 a) e r.1 in
       let le1 = (only_then (Since K.at) later _ (statements_late fuel (after_statement r.0 a) K.at e r.1 K.bytes K.ends) (λ B _. only_ok (Since K.at) _)).only f z in
       let k = K.kept (omega arith) in
-      bind_ok _ _ (r.0, k.0) k.1
+      goes_on _ k.1
       (refused_again later _ _ _ f
       (statements_again fuel (after_statement r.0 a) K.at e r.1 k.0 f K.bytes K.ends k.2)
       (λ B _ no. no_ok no) z))

@@ -1,47 +1,26 @@
 -- Declarations: what is written is read, and what is read was written and keeps the rules.
-use Rattle.std.proofs.Common.{◌≡◌, ℕ, zero, suc, ◌+◌, Bool, true, false, ◌&&◌, T, ltb, leb, List, [], ◌∷◌, ◌++◌, length, take, drop, ◌≤ℤ◌, Some, Ok, sym, refl, ap, ◌∙◌, subst, append_assoc, arith, length-append, take-append-drop, length-take, w32, SFits}
+use Rattle.std.proofs.Common.{◌≡◌, ℕ, zero, suc, ◌+◌, Bool, true, false, ◌&&◌, T, ltb, leb, List, [], ◌∷◌, ◌++◌, length, take, drop, ◌≤ℤ◌, Ok, sym, refl, ap, ◌∙◌, subst, append_assoc, arith, length-append, take-append-drop, length-take, w32, SFits}
 use lib.Signed.{le_z}
 use Rattle.std.specs.List.{AllByRecursion as All}
 use Rattle.std.proofs.ByRecursion.{All-take, All-drop}
 use Rattle.std.proofs.lemmas.List.{take_at, drop_at}
 use Rattle.std.proofs.lemmas.Bool.{leb-true, ltb-true, le-leb, lt-ltb, and_from, and_parts}
 use Rattle.arithmetic.specs.Operators.{combining_number}
-use Rattle.arithmetic.specs.declared.operators.Combining.{Combining}
-use Rattle.arithmetic.specs.declared.operators.Combining.TheVariants.{Sum, Least, Greatest, Left}
 use Rattle.evaluator.specs.Commands.{signed_of}
+use Rattle.evaluator.proofs.Reading.{Bytes, signed_back, signed_fits, signed_bytes_back}
 use Rattle.rules.specs.Encoding.{kind_number, policy_number, declaration_bytes, declarations_bytes}
 use Rattle.rules.specs.Outcomes.{numbered}
 use Rattle.rules.specs.Reading.{kinds, policies, combinings, zeros_right, read_declaration, read_declarations, owners_live}
 use Rattle.rules.specs.Valid.{Declared}
 use Rattle.rules.specs.declared.faults.LoadFault.{LoadFault}
-use Rattle.rules.specs.declared.program.Kind.{Kind}
-use Rattle.rules.specs.declared.program.Policy.{Policy}
 use Rattle.rules.specs.declared.program.Variable.{Variable}
-use Rattle.loading.proofs.Numbers.{Bytes, signed_back, signed_fits, signed_bytes_back}
-use Rattle.loading.proofs.Results.{bind_ok, bind_inv, some_ok, some_then, ensure_ok, ensure_then, same_ok, numbered_from}
+use Rattle.rules.proofs.Numbers.{kind_found, policy_found, operator_found}
+use Rattle.rules.proofs.Results.{goes_on, ok_then, some_ok, some_then, ensure_ok, ensure_then, same_ok, has_number}
 
 -- A test that holds is true.
 is_true : (b : Bool) → T b → b ≡ true
 is_true true h = refl
 is_true false h = absurd h
-
--- Each kind, policy and operator is found by its number.
-kind_back : (k : Kind) → numbered kind_number kinds (kind_number k) ≡ Some k
-kind_back Kind.Input = refl
-kind_back Kind.Private = refl
-kind_back Kind.Shared = refl
-kind_back Kind.Output = refl
-
-policy_back : (k : Policy) → numbered policy_number policies (policy_number k) ≡ Some k
-policy_back Policy.All = refl
-policy_back Policy.New = refl
-policy_back Policy.Mod = refl
-
-operator_back : (k : Combining) → numbered combining_number combinings (combining_number k) ≡ Some k
-operator_back Sum = refl
-operator_back Least = refl
-operator_back Greatest = refl
-operator_back Left = refl
 
 -- What reading tells of one declaration; of its owner only all bytes tell.
 pub record Made (bs : List ℕ) (d : Variable) : Type 0 where
@@ -76,9 +55,9 @@ module _ (f : LoadFault) (d : Variable) where
       let initial = signed_of b4 b5 b6 b7 in let low = signed_of b8 b9 b10 b11 in let high = signed_of b12 b13 b14 b15 in
       let z4 = ensure_then (le_z low initial && le_z initial high) f _ d z3.1 in
       let le = and_parts _ _ z4.0 in
-      let k = numbered_from kind_number kinds b0 z0.0 z0.1 in
-      let p = numbered_from policy_number policies b1 z1.0 z1.1 in
-      let o = numbered_from combining_number combinings b2 z2.0 z2.1 in
+      let k = has_number kind_number kinds b0 z0.0 z0.1 in
+      let p = has_number policy_number policies b1 z1.0 z1.1 in
+      let o = has_number combining_number combinings b2 z2.0 z2.1 in
       subst (Made (b0 ∷ b1 ∷ b2 ∷ b3 ∷ b4 ∷ b5 ∷ b6 ∷ b7 ∷ b8 ∷ b9 ∷ b10 ∷ b11 ∷ b12 ∷ b13 ∷ b14 ∷ b15 ∷ [])) {x = record { kind = z0.0; policy = z1.0; operator = z2.0; owner = b3; initial = initial; low = low; high = high }} (same_ok z4.1) (record {
         same = λ i. k i ∷ p i ∷ o i ∷ b3 ∷ (signed_bytes_back b4 b5 b6 b7 h4 h5 h6 h7 i ++ (signed_bytes_back b8 b9 b10 b11 h8 h9 h10 h11 i ++ signed_bytes_back b12 b13 b14 b15 h12 h13 h14 h15 i));
         zeros = (λ i. zeros_right z0.0 (p i) (o i) b3) ∙ z3.0;
@@ -97,11 +76,11 @@ module _ (f : LoadFault) (d : Variable) where
 declaration_back : (f : LoadFault) (n : ℕ) (d : Variable) → Declared n d → read_declaration f (declaration_bytes d) ≡ Ok d
 declaration_back f n d h =
     let i = signed_back d.initial h.initial_fits in let l = signed_back d.low h.low_fits in let u = signed_back d.high h.high_fits in
-    bind_ok _ _ d.kind (some_ok f (kind_back d.kind))
-    (bind_ok _ _ d.policy (some_ok f (policy_back d.policy))
-    (bind_ok _ _ d.operator (some_ok f (operator_back d.operator))
-    (bind_ok _ _ tt (ensure_ok f h.zeros)
-    (bind_ok _ _ tt (ensure_ok f ((λ j. le_z (l j) (i j) && le_z (i j) (u j)) ∙ and_from _ _ (is_true _ h.not_under.le) (is_true _ h.not_over.le)))
+    goes_on _ (some_ok f (kind_found d.kind))
+    (goes_on _ (some_ok f (policy_found d.policy))
+    (goes_on _ (some_ok f (operator_found d.operator))
+    (goes_on _ (ensure_ok f h.zeros)
+    (goes_on _ (ensure_ok f ((λ j. le_z (l j) (i j) && le_z (i j) (u j)) ∙ and_from _ _ (is_true _ h.not_under.le) (is_true _ h.not_over.le)))
     (λ j. Ok (record { kind = d.kind; policy = d.policy; operator = d.operator; owner = d.owner; initial = i j; low = l j; high = u j }))))))
 
 -- Declarations that keep the rules are read from what they are written as, whatever follows them.
@@ -110,9 +89,9 @@ declarations_back n e [] rest h = refl
 declarations_back n e (d ∷ ds) rest h =
     let X = declaration_bytes d in let bs = declarations_bytes ds ++ rest in
     subst (λ l. read_declarations (suc (length ds)) e l ≡ Ok (d ∷ ds, rest)) (sym (append_assoc X (declarations_bytes ds) rest))
-    (bind_ok _ _ tt (ensure_ok _ (le-leb 16 (length (X ++ bs)) (let l = length-append X bs in omega arith)))
-    (bind_ok _ _ d (ap (read_declaration _) (take_at X bs 16 refl) ∙ declaration_back _ n d h.0)
-    (bind_ok _ _ (ds, rest) (ap (read_declarations (length ds) e) (drop_at X bs 16 refl) ∙ declarations_back n e ds rest h.1) refl)))
+    (goes_on _ (ensure_ok _ (le-leb 16 (length (X ++ bs)) (let l = length-append X bs in omega arith)))
+    (goes_on _ (ap (read_declaration _) (take_at X bs 16 refl) ∙ declaration_back _ n d h.0)
+    (goes_on _ (ap (read_declarations (length ds) e) (drop_at X bs 16 refl) ∙ declarations_back n e ds rest h.1) refl)))
 
 -- What reading tells of a list of declarations and of the bytes after it.
 pub record Many (n : ℕ) (bs : List ℕ) (ds : List Variable) (rest : List ℕ) : Type 0 where
@@ -128,9 +107,9 @@ declarations_from (suc n) e bs r h z =
     let z0 = ensure_then (leb 16 (length bs)) _ _ r z in
     let le = leb-true 16 (length bs) z0.0 in
     let l = length-take 16 bs in
-    let z1 = bind_inv (read_declaration _ (take 16 bs)) _ r z0.1 in
+    let z1 = ok_then (read_declaration _ (take 16 bs)) _ r z0.1 in
     let m = declaration_from _ z1.0 (take 16 bs) (omega arith) (All-take _ 16 bs h) z1.1 in
-    let z2 = bind_inv (read_declarations n e (drop 16 bs)) _ r z1.2 in
+    let z2 = ok_then (read_declarations n e (drop 16 bs)) _ r z1.2 in
     let ih = declarations_from n e (drop 16 bs) z2.0 (All-drop _ 16 bs h) z2.1 in
     let P : List Variable × List ℕ → Type 0 = λ q. Many (suc n) bs q.0 q.1 in
     subst P (same_ok z2.2) (record {
@@ -143,7 +122,7 @@ declarations_from (suc n) e bs r h z =
 -- Where each owner is one of the threads, the check of owners accepts.
 pub owners_back : (n p : ℕ) (ds : List Variable) → All (Declared n) ds → owners_live n p ds ≡ Ok tt
 owners_back n p [] h = refl
-owners_back n p (d ∷ ds) h = bind_ok _ _ tt (ensure_ok _ (lt-ltb d.owner n h.0.owner_lives)) (owners_back n (p + 16) ds h.1)
+owners_back n p (d ∷ ds) h = goes_on _ (ensure_ok _ (lt-ltb d.owner n h.0.owner_lives)) (owners_back n (p + 16) ds h.1)
 
 -- Declarations that are read, and whose owners are accepted, keep the rules.
 pub owners_from : (n p : ℕ) (ds : List Variable) (u : Unit {0}) → All (λ d. Made (declaration_bytes d) d) ds → owners_live n p ds ≡ Ok u → All (Declared n) ds

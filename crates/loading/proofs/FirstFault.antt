@@ -5,6 +5,7 @@ use Rattle.std.proofs.ByRecursion.{All-drop}
 use Rattle.std.proofs.lemmas.Bool.{leb-true}
 use Rattle.arithmetic.specs.Operators.{combining_number}
 use Rattle.evaluator.specs.Rates.{most_variables}
+use Rattle.evaluator.proofs.Reading.{Bytes}
 use Rattle.rules.specs.Encoding.{kind_number, policy_number}
 use Rattle.rules.specs.Faults.{load_place}
 use Rattle.rules.specs.FirstFault.{all_in_order, read_in_order, longest_head}
@@ -15,11 +16,10 @@ use Rattle.rules.specs.declared.faults.LoadFault.{LoadFault}
 use Rattle.rules.specs.declared.faults.LoadFault.TheVariants.{BadLength, TooManyVariables, CutDeclaration, BadDeclaration}
 use Rattle.rules.specs.declared.faults.ReadingFault.TheVariants.{Cut}
 use Rattle.rules.specs.declared.program.Variable.{Variable}
+use Rattle.rules.proofs.Results.{goes_on, ok_then, ensure_ok, ensure_then, same_ok, same_err, refused_again}
 use Rattle.loading.proofs.Again.{Since, block_first_met}
 use Rattle.loading.proofs.Alike.{Alike, alike_by_front, alike_first, alike_rest, alike_take, alike_drop, alike_all}
-use Rattle.loading.proofs.Numbers.{Bytes}
-use Rattle.loading.proofs.Refused.{no_ok, same_err, Only, only_ok, only_some, only_ensure, only_then, only_weaker, refused_again, ensure_holds}
-use Rattle.loading.proofs.Results.{bind_ok, bind_inv, ensure_ok, ensure_then, same_ok}
+use Rattle.loading.proofs.Refused.{no_ok, Only, only_ok, only_some, only_ensure, only_then, only_weaker, ensure_holds}
 
 ---------------------------------------------------------------------- declarations
 
@@ -61,8 +61,8 @@ declarations_kept zero s m e bs bs' r h w l y =
 declarations_kept (suc n) s m e bs bs' r h w l y =
     let y0 = ensure_then (leb 16 (length bs)) _ _ r y in
     let le = leb-true 16 (length bs) y0.0 in
-    let y1 = bind_inv (read_declaration (BadDeclaration (e - length bs)) (take 16 bs)) _ r y0.1 in
-    let y2 = bind_inv (read_declarations n e (drop 16 bs)) _ r y1.2 in
+    let y1 = ok_then (read_declaration (BadDeclaration (e - length bs)) (take 16 bs)) _ r y0.1 in
+    let y2 = ok_then (read_declarations n e (drop 16 bs)) _ r y1.2 in
     let lt = length-take 16 bs in let ld = length-drop 16 bs in
     let K = declarations_kept n (s + 16) m e (drop 16 bs) (drop 16 bs') y2.0 (All-drop _ 16 bs h) (omega arith) (alike_drop s m 16 bs bs' l) y2.1 in
     let on = K.onward in
@@ -75,9 +75,9 @@ declarations_kept (suc n) s m e bs bs' r h w l y =
           let same = alike_all s m (take 16 bs) (take 16 bs') (omega arith) (alike_take s m 16 bs bs' l) in
           let k = K.kept short in (
             k.0,
-            bind_ok _ _ tt (ap (λ j. ensure (leb 16 j) (CutDeclaration (Cut (e - j)))) (sym l.long) ∙ ensure_ok _ y0.0)
-                (bind_ok _ _ y1.0 ((λ i. read_declaration (BadDeclaration (e - sym l.long i)) (sym same i)) ∙ y1.1)
-                (bind_ok _ _ (y2.0.0, k.0) k.1 refl)),
+            goes_on _ (ap (λ j. ensure (leb 16 j) (CutDeclaration (Cut (e - j)))) (sym l.long) ∙ ensure_ok _ y0.0)
+                (goes_on _ ((λ i. read_declaration (BadDeclaration (e - sym l.long i)) (sym same i)) ∙ y1.1)
+                (goes_on _ k.1 refl)),
             k.2,
           );
     })
@@ -96,11 +96,11 @@ declarations_again (suc n) s e bs bs' f w l y =
     let le = leb-true 16 (length bs) (ensure_holds _ _ u r) in
     let same = alike_all s m (take 16 bs) (take 16 bs') (omega arith) (alike_take s m 16 bs bs' l) in
     let one : read_declaration (BadDeclaration (e - length bs')) (take 16 bs') ≡ read_declaration (BadDeclaration (e - length bs)) (take 16 bs) = λ i. read_declaration (BadDeclaration (e - sym l.long i)) (sym same i) in
-    bind_ok _ _ u (long ∙ r)
+    goes_on _ (long ∙ r)
     (refused_again (read_declaration (BadDeclaration (e - length bs)) (take 16 bs)) (read_declaration (BadDeclaration (e - length bs')) (take 16 bs')) _ _ f
     (λ r1. one ∙ r1)
     (λ d r1 q1.
-    bind_ok _ _ d (one ∙ r1)
+    goes_on _ (one ∙ r1)
     (refused_again (read_declarations n e (drop 16 bs)) _ _ _ f
     (declarations_again n (s + 16) e (drop 16 bs) (drop 16 bs') f (omega arith) (alike_drop s m 16 bs bs' l))
     (λ ds _ no. no_ok no) q1))
@@ -121,7 +121,7 @@ all_again e (n ∷ bs) (n' ∷ bs') f h w l y =
     (refused_again (ensure (leb n most_variables) TooManyVariables) (ensure (leb n most_variables) TooManyVariables) _ _ f
     (λ r. r)
     (λ u r q.
-    bind_ok _ _ u r
+    goes_on _ r
     (refused_again (read_declarations n e bs) (read_declarations n e bs') _ _ f
     (declarations_again n 1 e bs bs' f (omega arith) rest)
     (λ ds r1 q1.
@@ -130,7 +130,7 @@ all_again e (n ∷ bs) (n' ∷ bs') f h w l y =
     let block = read_block ds.0 most_nested 0 start e ds.1 in
     let since = (only_then (Since K.at) block _ (D.late 0 start K.at e ds.1 K.bytes K.ends) (λ B _. only_ok (Since K.at) _)).only f q1 in
     let k = K.kept (omega arith) in
-    bind_ok _ _ (ds.0, k.0) k.1
+    goes_on _ k.1
     (refused_again block _ _ _ f
     (D.again 0 start K.at e ds.1 k.0 f K.bytes K.ends k.2)
     (λ B _ no. no_ok no) q1))
@@ -143,7 +143,7 @@ read_again bs bs' f h l y =
     let long = ap (λ j. ensure (leb 1 j && leb j most_bytes) BadLength) (sym l.long) in
     refused_again (ensure (leb 1 (length bs) && leb (length bs) most_bytes) BadLength) (ensure (leb 1 (length bs') && leb (length bs') most_bytes) BadLength) _ _ f
     (λ r. long ∙ r)
-    (λ u r q. bind_ok _ _ u (long ∙ r) (subst (λ j. all_in_order j bs' ≡ Err f) l.long (all_again (length bs) bs bs' f h refl l q)))
+    (λ u r q. goes_on _ (long ∙ r) (subst (λ j. all_in_order j bs' ≡ Err f) l.long (all_again (length bs) bs bs' f h refl l q)))
     y
 
 -- A fault that is met in order is the one that reading names.
@@ -151,15 +151,15 @@ all_named : (e : ℕ) (bs : List ℕ) (f : LoadFault) → all_in_order e bs ≡ 
 all_named e [] f y = let k = same_err y in ap Err k
 all_named e (n ∷ bs) f y =
     refused_again (ensure (leb n most_variables) TooManyVariables) _ _ _ f (λ r. r)
-    (λ u r q. bind_ok _ _ u r
+    (λ u r q. goes_on _ r
     (refused_again (read_declarations n e bs) _ _ _ f (λ r1. r1)
-    (λ ds r1 q1. bind_ok _ _ ds r1
+    (λ ds r1 q1. goes_on _ r1
     (refused_again (read_block ds.0 most_nested 0 start e ds.1) _ _ _ f (λ r2. r2) (λ B _ no. no_ok no) q1)) q)) y
 
 read_named : (bs : List ℕ) (f : LoadFault) → read_in_order bs ≡ Err f → read bs ≡ Err f
 read_named bs f y =
     refused_again (ensure (leb 1 (length bs) && leb (length bs) most_bytes) BadLength) _ _ _ f (λ r. r)
-    (λ u r q. bind_ok _ _ u r (all_named (length bs) bs f q)) y
+    (λ u r q. goes_on _ r (all_named (length bs) bs f q)) y
 
 -- The fault that reading names is the first.
 pub the_first_fault_is_named : TheFirstFaultIsNamed

@@ -2,6 +2,7 @@
 use Rattle.std.proofs.Common.{◌≡◌, ℕ, ◌+◌, ◌*◌, ◌≤◌, Bool, true, false, cond, leb, List, [], ◌∷◌, length, Ok, sym, refl, ap, subst, arith, length-drop, length-take}
 use Rattle.std.proofs.ByRecursion.{All-take, All-drop}
 use Rattle.std.proofs.lemmas.Bool.{leb-true}
+use Rattle.evaluator.proofs.Reading.{Bytes}
 use Rattle.rules.specs.Encoding.{form_byte}
 use Rattle.rules.specs.Forms.{forms, has_byte, has_expression, has_block, has_second_block, flags_known}
 use Rattle.rules.specs.Outcomes.{◌>>=◌, ensure, from_some, refused_as, numbered}
@@ -12,7 +13,6 @@ use Rattle.rules.specs.declared.program.Form.{Form}
 use Rattle.rules.specs.declared.program.Form.TheVariants.{Nothing, Set, Pause, If, Loop, Par, Abort}
 use Rattle.rules.specs.declared.program.Variable.{Variable}
 use Rattle.loading.proofs.Alike.{Alike, alike_first, alike_rest, alike_take, alike_drop, alike_all}
-use Rattle.loading.proofs.Numbers.{Bytes}
 use Rattle.loading.proofs.Refused.{Related, related_refused, related_weaker, related_then, same_then, ensure_holds}
 
 -- The same value was read of bytes from place s on, in at most `most` of them; those after it, which end at place e, are alike before place m.

@@ -1,5 +1,3 @@
-pub mod Results
-pub mod Numbers
 pub mod Expressions
 pub mod Declarations
 pub mod Parts

@@ -5,7 +5,7 @@ use Rattle.rules.specs.Lengths.{must_pause}
 use Rattle.rules.specs.Reading.{idle, statement_pauses, loops_pause}
 use Rattle.rules.specs.Text.{Stmt, nothing, assign, pause, branch, loop, par, abort, Block, end, ◌then◌}
 use Rattle.rules.specs.Valid.{Pausing, PausingStatement}
-use Rattle.loading.proofs.Results.{bind_ok, bind_inv, ensure_ok, ensure_then}
+use Rattle.rules.proofs.Results.{goes_on, ok_then, ensure_ok, ensure_then}
 
 -- A loop is not idle exactly if with bound 0 its block always pauses.
 busy : (n : ℕ) (b : Bool) → (n ≡ 0 → b ≡ true) → not (eqb n 0 && not b) ≡ true
@@ -23,14 +23,14 @@ mutual
   statement_pauses_back (nothing a) p n t u h = refl
   statement_pauses_back (assign a v e) p n t u h = refl
   statement_pauses_back (pause a) p n t u h = refl
-  statement_pauses_back (branch a e X Y) p n t u h = bind_ok _ _ tt (loops_pause_back X _ _ _ _ h.0) (loops_pause_back Y _ _ _ _ h.1)
-  statement_pauses_back (loop a b e X) p n t u h = bind_ok _ _ tt (ensure_ok _ (busy b (must_pause X) h.0)) (loops_pause_back X _ _ _ _ h.1)
-  statement_pauses_back (par a X Y) p n t u h = bind_ok _ _ tt (loops_pause_back X _ _ _ _ h.0) (loops_pause_back Y _ _ _ _ h.1)
+  statement_pauses_back (branch a e X Y) p n t u h = goes_on _ (loops_pause_back X _ _ _ _ h.0) (loops_pause_back Y _ _ _ _ h.1)
+  statement_pauses_back (loop a b e X) p n t u h = goes_on _ (ensure_ok _ (busy b (must_pause X) h.0)) (loops_pause_back X _ _ _ _ h.1)
+  statement_pauses_back (par a X Y) p n t u h = goes_on _ (loops_pause_back X _ _ _ _ h.0) (loops_pause_back Y _ _ _ _ h.1)
   statement_pauses_back (abort a w i e X) p n t u h = loops_pause_back X _ _ _ _ h
 
   pub loops_pause_back : (B : Block (Unit {0})) (p n t u : ℕ) → Pausing B → loops_pause p n t u B ≡ Ok tt
   loops_pause_back end p n t u h = refl
-  loops_pause_back (s then B) p n t u h = bind_ok _ _ tt (statement_pauses_back s _ _ _ _ h.0) (loops_pause_back B _ _ _ _ h.1)
+  loops_pause_back (s then B) p n t u h = goes_on _ (statement_pauses_back s _ _ _ _ h.0) (loops_pause_back B _ _ _ _ h.1)
 
 -- Where the check accepts, pausing loops always pause.
 mutual
@@ -38,11 +38,11 @@ mutual
   statement_pauses_from (nothing a) p n t u z h = tt
   statement_pauses_from (assign a v e) p n t u z h = tt
   statement_pauses_from (pause a) p n t u z h = tt
-  statement_pauses_from (branch a e X Y) p n t u z h = let k = bind_inv (loops_pause _ _ _ _ X) _ z h in (loops_pause_from X _ _ _ _ _ k.1, loops_pause_from Y _ _ _ _ _ k.2)
+  statement_pauses_from (branch a e X Y) p n t u z h = let k = ok_then (loops_pause _ _ _ _ X) _ z h in (loops_pause_from X _ _ _ _ _ k.1, loops_pause_from Y _ _ _ _ _ k.2)
   statement_pauses_from (loop a b e X) p n t u z h = let k = ensure_then (not (idle b X)) _ _ z h in (busy_from b (must_pause X) k.0, loops_pause_from X _ _ _ _ _ k.1)
-  statement_pauses_from (par a X Y) p n t u z h = let k = bind_inv (loops_pause _ _ _ _ X) _ z h in (loops_pause_from X _ _ _ _ _ k.1, loops_pause_from Y _ _ _ _ _ k.2)
+  statement_pauses_from (par a X Y) p n t u z h = let k = ok_then (loops_pause _ _ _ _ X) _ z h in (loops_pause_from X _ _ _ _ _ k.1, loops_pause_from Y _ _ _ _ _ k.2)
   statement_pauses_from (abort a w i e X) p n t u z h = loops_pause_from X _ _ _ _ z h
 
   pub loops_pause_from : (B : Block (Unit {0})) (p n t u : ℕ) (z : Unit {0}) → loops_pause p n t u B ≡ Ok z → Pausing B
   loops_pause_from end p n t u z h = tt
-  loops_pause_from (s then B) p n t u z h = let k = bind_inv (statement_pauses _ _ _ _ s) _ z h in (statement_pauses_from s _ _ _ _ _ k.1, loops_pause_from B _ _ _ _ _ k.2)
+  loops_pause_from (s then B) p n t u z h = let k = ok_then (statement_pauses _ _ _ _ s) _ z h in (statement_pauses_from s _ _ _ _ _ k.1, loops_pause_from B _ _ _ _ _ k.2)

@@ -2,6 +2,7 @@
 use Rattle.std.proofs.Common.{◌≡◌, ℕ, zero, suc, ◌+◌, ◌-◌, ◌<◌, ◌≤◌, Bool, true, false, not, ◌||◌, ltb, List, [], ◌∷◌, ◌++◌, length, Ok, sym, refl, ap, ◌∙◌, subst, arith, length-append}
 use Rattle.std.proofs.lemmas.Bool.{leb-true, ltb-true, and_parts}
 use Rattle.evaluator.specs.Commands.{written}
+use Rattle.evaluator.proofs.Reading.{Bytes}
 use Rattle.rules.specs.Encoding.{form_byte, statement_bytes, block_bytes}
 use Rattle.rules.specs.Forms.{forms, has_expression, has_block, has_second_block, par_count, flags_known, build}
 use Rattle.rules.specs.Outcomes.{refused_as, numbered}
@@ -11,10 +12,9 @@ use Rattle.rules.specs.Valid.{RightExpression, RightStatement, RightBlock}
 use Rattle.rules.specs.declared.program.Form.{Form}
 use Rattle.rules.specs.declared.program.Form.TheVariants.{Nothing, Set, Pause, If, Loop, Par, Abort}
 use Rattle.rules.specs.declared.program.Variable.{Variable}
+use Rattle.rules.proofs.Results.{ok_then, some_then, ensure_then, lower_ok, same_ok, has_number}
 use Rattle.loading.proofs.Expressions.{expression_from}
-use Rattle.loading.proofs.Numbers.{Bytes}
-use Rattle.loading.proofs.Parts.{joined, Parted, parts_from}
-use Rattle.loading.proofs.Results.{bind_inv, some_then, ensure_then, refused_inv, same_ok, numbered_from, no_way, no_way'}
+use Rattle.loading.proofs.Parts.{no_way, no_way', joined, Parted, parts_from}
 use Rattle.loading.proofs.Shapes.{Shaped, bytes_by_form, counted, some_bytes}
 
 ---------------------------------------------------------------------- a statement before its blocks
@@ -51,15 +51,15 @@ module _ (ds : List Variable) (n t : ℕ) (a : Counts) (p c : ℕ) (bs : List �
       let z0 = some_then (numbered form_byte forms c) _ _ h z in
       let k = z0.0 in
       let z1 = ensure_then (within_limits n k a) _ _ h z0.2 in
-      let z2 = bind_inv (refused_as _ (parts_in p k bs)) _ h z1.1 in
+      let z2 = ok_then (refused_as _ (parts_in p k bs)) _ h z1.1 in
       let o = z2.0 in
       let z3 = ensure_then (flags_known k o.byte) _ _ h z2.2 in
       let z4 = ensure_then (set_right ds t k o.byte) _ _ h z3.1 in
-      let z5 = bind_inv (expression_of ds t (place_of_code k p) p (has_expression k) o.code) _ h z4.1 in
-      let parted = parts_from p k bs o bytes (refused_inv _ (parts_in p k bs) o z2.1) in
+      let z5 = ok_then (expression_of ds t (place_of_code k p) p (has_expression k) o.code) _ h z4.1 in
+      let parted = parts_from p k bs o bytes (lower_ok _ (parts_in p k bs) o z2.1) in
       let e = expression_of_from ds t (place_of_code k p) p (has_expression k) o.code z5.0 parted.code_bytes parted.fitting.no_code z5.1 in
       subst Headed {x = record { form = k; parts = o; expression = z5.0 }} (same_ok z5.2) (record {
-        known = numbered_from form_byte forms c k z0.1;
+        known = has_number form_byte forms c k z0.1;
         limited = limits_from n k a z1.0;
         parted = parted;
         flagged = z3.0;
@@ -187,16 +187,16 @@ module _ (ds : List Variable) (n : ℕ) (deeper : Reads) (D : Deeper ds n deeper
   statement_from : (a : Counts) (z c : ℕ) (bs : List ℕ) (r : Stmt (Unit {0}) × List ℕ) → Bytes bs → read_statement ds n deeper t a z c bs ≡ Ok r → CameFirst ds n t a c bs r.0 r.1
   statement_from a z c bs r bytes y =
       let p = z - suc (length bs) in
-      let y0 = bind_inv (refused_as _ (read_head ds n t a p c bs)) _ r y in
+      let y0 = ok_then (refused_as _ (read_head ds n t a p c bs)) _ r y in
       let h = y0.0 in
-      let H = head_from ds n t a p c bs h bytes (refused_inv _ (read_head ds n t a p c bs) h y0.1) in
+      let H = head_from ds n t a p c bs h bytes (lower_ok _ (read_head ds n t a p c bs) h y0.1) in
       let k = h.form in let o = h.parts in
       let lt : a.statements < most_statements = H.limited.0 in
       let one : a.statements + 1 ≤ most_statements = omega arith in
-      let y1 = bind_inv (deeper (block_thread k t (before_first k a).threads) (before_first k a) (z - length o.after - length o.second) o.first) _ r y0.2 in
+      let y1 = ok_then (deeper (block_thread k t (before_first k a).threads) (before_first k a) (z - length o.after - length o.second) o.first) _ r y0.2 in
       let X = y1.0 in
       let X' = inner_from ds n deeper (has_block k) (block_thread k t (before_first k a).threads) (before_first k a) _ o.first X D H.limited.2 H.parted.fitting.no_block H.parted.first_bytes one H.limited.1 y1.1 in
-      let y2 = bind_inv (deeper (block_thread k t (before_second k X a).threads) (before_second k X a) (z - length o.after) o.second) _ r y1.2 in
+      let y2 = ok_then (deeper (block_thread k t (before_second k X a).threads) (before_second k X a) (z - length o.after) o.second) _ r y1.2 in
       let Y = y2.0 in
       let Y' = inner_from ds n deeper (has_second_block k) (block_thread k t (before_second k X a).threads) (before_second k X a) _ o.second Y D (λ q. H.limited.2 (second_has_first k q)) H.parted.fitting.no_second H.parted.second_bytes X'.few X'.few_pars y2.1 in
       let P : Stmt (Unit {0}) × List ℕ → Type 0 = λ q. CameFirst ds n t a c bs q.0 q.1 in
@@ -207,11 +207,11 @@ module _ (ds : List Variable) (n : ℕ) (deeper : Reads) (D : Deeper ds n deeper
   statements_from f a z [] B h long p q r = subst (Came ds (suc n) t a []) (same_ok r) (record { same = refl; few = omega arith; few_pars = omega arith; shallow = omega arith; right = tt })
   statements_from zero a z (c ∷ bs) B h long p q r = absurd (omega arith)
   statements_from (suc f) a z (c ∷ bs) B h long p q r =
-      let y0 = bind_inv (read_statement ds n deeper t a z c bs) _ B r in
+      let y0 = ok_then (read_statement ds n deeper t a z c bs) _ B r in
       let s = y0.0.0 in let after = y0.0.1 in
       let S = statement_from a z c bs y0.0 h.1 y0.1 in
       let l0 = ap length S.same in let l1 = length-append (statement_bytes s) after in let l2 = some_bytes s in
-      let y1 = bind_inv (read_statements ds n deeper t f (after_statement s a) z after) _ B y0.2 in
+      let y1 = ok_then (read_statements ds n deeper t f (after_statement s a) z after) _ B y0.2 in
       let R = statements_from f (after_statement s a) z after y1.0 S.bytes (omega arith) S.few S.few_pars y1.1 in
       let few : a.statements + count_of s + count y1.0 ≤ most_statements = R.few in
       let few_pars : a.pars + pars_of s + pars y1.0 ≤ most_pars = R.few_pars in

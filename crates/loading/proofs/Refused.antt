@@ -1,16 +1,12 @@
 -- Results in a row: which refusals a row can give, and two rows that are refused alike.
 use Rattle.std.proofs.Common.{◌≡◌, Bool, true, false, Some, None, Ok, Err, Option, Result, sym, refl, ap, ◌∙◌, subst}
 use Rattle.rules.specs.Outcomes.{◌>>=◌, ensure, from_some, refused_as}
-use Rattle.loading.proofs.Results.{no_err}
+use Rattle.rules.proofs.Results.{not_both, same_err}
 
 module _ {A E : Type 0} where
-  -- Equal refusals refuse by the same.
-  pub same_err : {e f : E} → ◌≡◌ {A = Result A E} (Err e) (Err f) → e ≡ f
-  same_err {e} {f} h = cc
-
   -- An acceptance is no refusal.
   pub no_ok : {a : A} {e : E} {P : Type 0} → ◌≡◌ {A = Result A E} (Ok a) (Err e) → P
-  no_ok h = no_err (sym h)
+  no_ok h = not_both (sym h)
 
 ---------------------------------------------------------------------- which refusals
 
@@ -74,7 +70,7 @@ module _ {A E : Type 0} (R : A → A → Type 0) where
 
   -- Where one of two is accepted, so is the other.
   pub accepted_both : (r r' : Result A E) (a : A) → Related R r r' → r ≡ Ok a → (a' : A) × (r' ≡ Ok a') × R a a'
-  accepted_both (Err g) r' a h e = no_err e
+  accepted_both (Err g) r' a h e = not_both e
   accepted_both (Ok b) (Err g') a h e = absurd h.both
   accepted_both (Ok b) (Ok b') a h e = (b', refl, subst (λ x. R x b') (let k : b ≡ a = cc in k) h.both)
 
@@ -110,10 +106,4 @@ module _ {A B E : Type 0} (S : B → B → Type 0) where
 -- A test that is accepted holds.
 pub ensure_holds : {E : Type 0} (b : Bool) (e : E) (u : Unit {0}) → ensure b e ≡ Ok u → b ≡ true
 ensure_holds true e u h = refl
-ensure_holds false e u h = no_err h
-
-module _ {A B C E : Type 0} where
-  -- A second row is refused as the first, if its first part is refused where that of the first is, and accepted alike where the first is refused later.
-  pub refused_again : (r r' : Result A E) (g : A → Result B E) (g' : A → Result C E) (f : E) → (r ≡ Err f → r' ≡ Err f) → ((a : A) → r ≡ Ok a → g a ≡ Err f → (r' >>= g') ≡ Err f) → (r >>= g) ≡ Err f → (r' >>= g') ≡ Err f
-  refused_again (Ok a) r' g g' f now later h = later a refl h
-  refused_again (Err e) r' g g' f now later h = let k : e ≡ f = same_err h in ap (λ q. q >>= g') (now (ap Err k))
+ensure_holds false e u h = not_both h

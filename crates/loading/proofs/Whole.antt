@@ -2,17 +2,17 @@
 use Rattle.std.proofs.Common.{◌≡◌, ℕ, suc, ◌+◌, ◌*◌, ◌≤◌, ◌&&◌, leb, List, [], ◌∷◌, ◌++◌, length, Ok, sym, refl, ◌∙◌, subst, arith}
 use Rattle.std.proofs.lemmas.Bool.{le-leb, leb-true, and_from, and_parts}
 use Rattle.evaluator.specs.Rates.{most_variables}
-use Rattle.rules.specs.Encoding.{encode, block_bytes, declarations_bytes}
+use Rattle.evaluator.proofs.Reading.{Bytes}
+use Rattle.rules.specs.Encoding.{encode, declarations_bytes}
 use Rattle.rules.specs.Lengths.{block_length, tick_length, longest_tick}
 use Rattle.rules.specs.Promises.{LoadingAcceptsTheValid}
 use Rattle.rules.specs.Reading.{most_bytes, most_nested, start, read_declarations, read_block, owners_live, loops_pause, read_all, read}
 use Rattle.rules.specs.Text.{Program, arms}
 use Rattle.rules.specs.Valid.{Valid}
+use Rattle.rules.proofs.Results.{goes_on, ok_then, ensure_ok, ensure_then, same_ok, not_both}
 use Rattle.loading.proofs.Declarations.{declarations_back, declarations_from, owners_back, owners_from}
-use Rattle.loading.proofs.Numbers.{Bytes}
 use Rattle.loading.proofs.Pauses.{loops_pause_back, loops_pause_from}
 use Rattle.loading.proofs.Read.{block_from}
-use Rattle.loading.proofs.Results.{bind_ok, bind_inv, ensure_ok, ensure_then, same_ok, no_err}
 use Rattle.loading.proofs.Written.{block_back}
 
 -- A valid program is read from what it is written as.
@@ -20,13 +20,13 @@ pub read_back : (p : Program) → Valid p → read (encode p) ≡ Ok p
 read_back p v =
     let ds = p.variables in
     let s = v.few_statements in let k = v.few_pars in
-    bind_ok _ _ tt (ensure_ok _ (and_from _ _ (le-leb 1 (length (encode p)) (omega arith)) (le-leb (length (encode p)) most_bytes v.short_enough)))
-    (bind_ok _ _ tt (ensure_ok _ (le-leb (length ds) most_variables v.few_variables))
-    (bind_ok _ _ (ds, block_bytes p.main) (declarations_back _ _ ds _ v.declared)
-    (bind_ok _ _ p.main (block_back ds p.main most_nested 0 start _ (record { few = omega arith; few_pars = omega arith; shallow = v.shallow; u = 1; next = refl; right = v.right }))
-    (bind_ok _ _ tt (owners_back _ _ ds v.declared)
-    (bind_ok _ _ tt (loops_pause_back p.main _ _ _ _ v.pausing)
-    (bind_ok _ _ tt (ensure_ok _ (le-leb (block_length p.main + 1) longest_tick v.in_time)) refl))))))
+    goes_on _ (ensure_ok _ (and_from _ _ (le-leb 1 (length (encode p)) (omega arith)) (le-leb (length (encode p)) most_bytes v.short_enough)))
+    (goes_on _ (ensure_ok _ (le-leb (length ds) most_variables v.few_variables))
+    (goes_on _ (declarations_back _ _ ds _ v.declared)
+    (goes_on _ (block_back ds p.main most_nested 0 start _ (record { few = omega arith; few_pars = omega arith; shallow = v.shallow; u = 1; next = refl; right = v.right }))
+    (goes_on _ (owners_back _ _ ds v.declared)
+    (goes_on _ (loops_pause_back p.main _ _ _ _ v.pausing)
+    (goes_on _ (ensure_ok _ (le-leb (block_length p.main + 1) longest_tick v.in_time)) refl))))))
 
 -- The parts of reading a program that was accepted.
 record Opened (n : ℕ) (bs : List ℕ) (p : Program) : Type 0 where
@@ -43,10 +43,10 @@ record Opened (n : ℕ) (bs : List ℕ) (p : Program) : Type 0 where
 opened : (z n : ℕ) (bs : List ℕ) (p : Program) → read_all z (n ∷ bs) ≡ Ok p → Opened n bs p
 opened z n bs p y =
     let y0 = ensure_then (leb n most_variables) _ _ p y in
-    let y1 = bind_inv (read_declarations n z bs) _ p y0.1 in
-    let y2 = bind_inv (read_block y1.0.0 most_nested 0 start z y1.0.1) _ p y1.2 in
-    let y3 = bind_inv (owners_live (1 + arms y2.0) 1 y1.0.0) _ p y2.2 in
-    let y4 = bind_inv (loops_pause (1 + 16 * n) 0 0 1 y2.0) _ p y3.2 in
+    let y1 = ok_then (read_declarations n z bs) _ p y0.1 in
+    let y2 = ok_then (read_block y1.0.0 most_nested 0 start z y1.0.1) _ p y1.2 in
+    let y3 = ok_then (owners_live (1 + arms y2.0) 1 y1.0.0) _ p y2.2 in
+    let y4 = ok_then (loops_pause (1 + 16 * n) 0 0 1 y2.0) _ p y3.2 in
     let y5 = ensure_then (leb (block_length y2.0 + 1) longest_tick) _ _ p y4.2 in
     subst (Opened n bs) {x = record { variables = y1.0.0; main = y2.0 }} (same_ok y5.1) (record {
       z = z;
@@ -83,7 +83,7 @@ closed n bs p h short o =
 
 -- A program that is read is valid, and was written so.
 read_from : (bs : List ℕ) (p : Program) → Bytes bs → read bs ≡ Ok p → Valid p × (encode p ≡ bs)
-read_from [] p h y = no_err y
+read_from [] p h y = not_both y
 read_from (n ∷ bs) p h y =
     let k = ensure_then (leb 1 (length (n ∷ bs)) && leb (length (n ∷ bs)) most_bytes) _ _ p y in
     closed n bs p h.1 (leb-true _ _ (and_parts _ _ k.0).1) (opened _ n bs p k.1)

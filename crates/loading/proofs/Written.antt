@@ -10,9 +10,9 @@ use Rattle.rules.specs.Valid.{RightExpression, RightBlock}
 use Rattle.rules.specs.declared.program.Form.{Form}
 use Rattle.rules.specs.declared.program.Form.TheVariants.{Nothing, Set, Pause, If, Loop, Par, Abort}
 use Rattle.rules.specs.declared.program.Variable.{Variable}
+use Rattle.rules.proofs.Results.{goes_on, some_ok, ensure_ok, upper_ok}
 use Rattle.loading.proofs.Expressions.{expression_back}
-use Rattle.loading.proofs.Parts.{joined, parts_back}
-use Rattle.loading.proofs.Results.{bind_ok, some_ok, ensure_ok, refused_ok, no_way, no_way'}
+use Rattle.loading.proofs.Parts.{no_way, no_way', joined, parts_back}
 use Rattle.loading.proofs.Shapes.{form_back, parts_of, Shaped, fitting, bytes_by_form, some_bytes}
 
 -- A right expression is read where the form has one.
@@ -41,15 +41,15 @@ module _ (ds : List Variable) (n : ℕ) (deeper : Reads) (t : ℕ) (a : Counts) 
   -- Such a statement is read from what it is written as, whatever follows it.
   statement_read : (z : ℕ) (after : List ℕ) → Readable → read_statement ds n deeper t a z (form_byte k) (joined k (parts_of o e X Y after)) ≡ Ok (build k o e X Y, after)
   statement_read z after w =
-      bind_ok _ _ (record { form = k; parts = parts_of o e X Y after; expression = e })
-      (refused_ok _ (bind_ok _ _ k (some_ok _ (form_back k))
-      (bind_ok _ _ tt (ensure_ok _ w.roomy)
-      (bind_ok _ _ (parts_of o e X Y after) (refused_ok _ (parts_back _ k (parts_of o e X Y after) (fitting o e X Y k after w.shaped)))
-      (bind_ok _ _ tt (ensure_ok _ w.flagged)
-      (bind_ok _ _ tt (ensure_ok _ w.named)
-      (bind_ok _ _ e (expression_of_back ds t _ _ (has_expression k) e w.shaped.no_code w.right) refl)))))))
-      (bind_ok _ _ X (w.first _)
-      (bind_ok _ _ Y (w.second _) refl))
+      goes_on _
+      (upper_ok _ (goes_on _ (some_ok _ (form_back k))
+      (goes_on _ (ensure_ok _ w.roomy)
+      (goes_on _ (upper_ok _ (parts_back _ k (parts_of o e X Y after) (fitting o e X Y k after w.shaped)))
+      (goes_on _ (ensure_ok _ w.flagged)
+      (goes_on _ (ensure_ok _ w.named)
+      (goes_on _ (expression_of_back ds t _ _ (has_expression k) e w.shaped.no_code w.right) refl)))))))
+      (goes_on _ (w.first _)
+      (goes_on _ (w.second _) refl))
 
   -- The same of the statement and the rest of its block.
   then_rest : (f z : ℕ) (B : Block (Unit {0})) → Readable → suc (length (block_bytes B)) ≤ f →
@@ -58,7 +58,7 @@ module _ (ds : List Variable) (n : ℕ) (deeper : Reads) (t : ℕ) (a : Counts) 
   then_rest zero z B w long more = absurd (omega arith)
   then_rest (suc f) z B w long more =
       subst (λ l. read_statements ds n deeper t (suc f) a z l ≡ Ok (build k o e X Y then B)) (sym (bytes_by_form o e X Y k (block_bytes B) w.shaped w.flagged))
-      (bind_ok _ _ _ (statement_read z (block_bytes B) w) (bind_ok _ _ B (more f (omega arith)) refl))
+      (goes_on _ (statement_read z (block_bytes B) w) (goes_on _ (more f (omega arith)) refl))
 
 -- Each block is one block deep at least.
 deep : (B : Block (Unit {0})) → 1 ≤ depth B

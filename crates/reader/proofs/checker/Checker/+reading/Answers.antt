@@ -3,7 +3,7 @@ use Rattle.std.proofs.Common.{◌∙◌, rules}
 use Rattle.reader.specs.Counting.{counted}
 use Rattle.reader.specs.Readers.{left_of}
 use Rattle.reader.specs.Told.{with_counts, with_counts_and_left}
-use Rattle.reader.proofs.Binding.{err_mapped}
+use Rattle.reader.proofs.Mapped.{err_mapped}
 use Rattle.reader.proofs.Turns.{begun_at, one_more_at, stopped_at}
 use Rattle.reader.proofs.Ways.{no_head, first_stopped, second_stopped, both_read}
 use Rattle.reader.proofs.checker.Checker.+reading.Goals as goal

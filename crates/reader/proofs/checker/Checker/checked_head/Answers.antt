@@ -5,7 +5,7 @@ use Rattle.reader.specs.Counting.{counted}
 use Rattle.reader.specs.Pieces.{pieces}
 use Rattle.reader.specs.Readers.{left_of}
 use Rattle.reader.specs.Seen.{seen}
-use Rattle.reader.proofs.Binding.{err_mapped}
+use Rattle.reader.proofs.Mapped.{err_mapped}
 use Rattle.reader.proofs.Exits.{wrong_code}
 use Rattle.reader.proofs.Sizes.{fine_head}
 use Rattle.reader.proofs.checker.Checker.checked_head.Goals as goal

@@ -1,6 +1,7 @@
 -- The commands of an expression, as the code takes them one by one.
-use Rattle.std.proofs.Common.{◌≡◌, ℕ, zero, suc, ◌+◌, ◌-◌, ◌<◌, ◌≤◌, Bool, true, false, List, [], ◌∷◌, length, Some, None, Ok, Err, Option, Result, sym, refl, ap, ◌∙◌, arith}
+use Rattle.std.proofs.Common.{◌≡◌, ℕ, zero, suc, ◌+◌, ◌-◌, ◌<◌, ◌≤◌, Bool, true, false, List, [], ◌∷◌, length, get_or, Some, None, Ok, Err, Option, Result, sym, refl, ap, ◌∙◌, arith}
 use Rattle.std.proofs.lemmas.Bool.{le-leb, and_from}
+use Rattle.std.proofs.lemmas.Grind.{common_steps}
 use Rattle.evaluator.specs.Commands.{Command, Placed, next_command, listed, listing, commands_of}
 use Rattle.evaluator.specs.Evaluating.{longest}
 use Rattle.evaluator.specs.Outcomes.{mapped}
@@ -10,6 +11,12 @@ use Rattle.rules.specs.declared.faults.StatementFault.{StatementFault}
 use Rattle.rules.specs.declared.faults.StatementFault.TheVariants.{BadExpression, WrongVariable}
 use Rattle.rules.specs.declared.program.Variable.{Variable}
 use Rattle.reader.specs.Steps.{one_command, unit}
+
+-- What no command's arm takes is refused.
+pub refused_first : (ds : List Variable) (t p d : ℕ) (bs : List ℕ) → (get_or bs 0 0 ≡ 0x40 → 5 ≤ length bs → 16 ≤ d) → (get_or bs 0 0 ≡ 0x41 → 2 ≤ length bs → 16 ≤ d) → (0x42 ≤ get_or bs 0 0 → get_or bs 0 0 ≤ 0x48 → 1 ≤ length bs → d < 2) → (get_or bs 0 0 ≡ 0x49 → 1 ≤ length bs → d < 1)
+    → ◌≡◌ {A = Result (ℕ × List ℕ) StatementFault} (Err (BadExpression p)) (one_command ds t p d (next_command bs))
+refused_first ds t p d [] h40 h41 h42 h49 = refl
+refused_first ds t p d (b ∷ bs) h40 h41 h42 h49 = grind (arith, common_steps)
 
 module _ (ds : List Variable) (t origin at : ℕ) where
   -- One command and then the others.

@@ -16,7 +16,8 @@ use Rattle.reader.specs.Steps.{unit}
 use Rattle.reader.specs.Told.{told_head, head_at}
 use Rattle.reader.specs.declared.faults.SitedFault.{SitedFault}
 use Rattle.reader.specs.declared.heads.Head.{Head}
-use Rattle.reader.proofs.Binding.{bind_ok, some_ok, ensure_ok, mapped_err, refused_ok, refused_mapped}
+use Rattle.rules.proofs.Results.{goes_on, some_ok, ensure_ok, upper_ok}
+use Rattle.reader.proofs.Mapped.{mapped_err, refused_mapped}
 
 module _ (ds : List Variable) (n t : ℕ) (a : Counts) (c : ℕ) (bs : List ℕ) where
   -- A head whose expression is wrong, with all before it right.
@@ -24,7 +25,7 @@ module _ (ds : List Variable) (n t : ℕ) (a : Counts) (c : ℕ) (bs : List ℕ)
       → Err g ≡ mapped unit (expression_of ds t from p (has_expression k) o.code) → Err g ≡ mapped (seen_head q) (read_head ds n t a q c bs)
   wrong_code p q from k o g at begins is ok here flagged named coded =
       let wrong = mapped_err unit (expression_of ds t (place_of_code k p) p (has_expression k) o.code) g (coded ∙ ap (λ f. mapped unit (expression_of ds t f p (has_expression k) o.code)) begins) in
-      ap (mapped (seen_head p)) (sym (bind_ok _ _ k (some_ok _ (sym is)) (bind_ok _ _ tt (ensure_ok _ (sym ok)) (bind_ok _ _ o (refused_ok Reading _ (sym here)) (bind_ok _ _ tt (ensure_ok _ (sym flagged)) (bind_ok _ _ tt (ensure_ok _ (sym named)) (ap (λ r. r >>= (λ e. Ok (record { form = k; parts = o; expression = e }))) wrong)))))))
+      ap (mapped (seen_head p)) (sym (goes_on _ (some_ok _ (sym is)) (goes_on _ (ensure_ok _ (sym ok)) (goes_on _ (upper_ok Reading (sym here)) (goes_on _ (ensure_ok _ (sym flagged)) (goes_on _ (ensure_ok _ (sym named)) (ap (λ r. r >>= (λ e. Ok (record { form = k; parts = o; expression = e }))) wrong)))))))
       ∙ ap (λ p. mapped (seen_head p) (read_head ds n t a p c bs)) at
 
   -- The fault of a statement with the site that is added to it.

@@ -13,7 +13,7 @@ use Rattle.reader.specs.Counting.{counted, kept}
 use Rattle.reader.specs.Readers.{from_place}
 use Rattle.reader.specs.Summaries.{main_in, summary}
 use Rattle.reader.specs.Told.{sum_block}
-use Rattle.reader.proofs.Binding.{mapped_ok, mapped_err}
+use Rattle.reader.proofs.Mapped.{mapped_ok, mapped_err}
 
 module _ (ds : List Variable) (k : ℕ) (bs : List ℕ) where
   -- The block of the bytes before an end.

@@ -9,7 +9,7 @@ use Rattle.reader.specs.declared.heads.Head.{Head}
 use Rattle.reader.specs.Counting.{counted}
 use Rattle.reader.specs.Readers.{left_of}
 use Rattle.reader.specs.Seen.{Fine}
-use Rattle.reader.proofs.Binding.{not_both, bind_inv, ensure_then, same_ok}
+use Rattle.rules.proofs.Results.{not_both, ok_then, ensure_then, same_ok}
 
 module _ (p : ℕ) where
   -- A part and what follows it make up the bytes.
@@ -63,17 +63,17 @@ module _ (p : ℕ) where
 
   sized : (k : Form) (bs : List ℕ) (o : Parts) → Ok o ≡ parts_in p k bs → Sized k bs o
   sized k bs o e =
-      let b = bind_inv (byte_in p (has_byte k) bs) _ o (sym e) in
+      let b = ok_then (byte_in p (has_byte k) bs) _ o (sym e) in
       let b' = byte_long (has_byte k) bs b.0 b.1 in
-      let c = bind_inv (code_in p (has_expression k) b.0.1) _ o b.2 in
+      let c = ok_then (code_in p (has_expression k) b.0.1) _ o b.2 in
       let c' = code_long (has_expression k) b.0.1 c.0 c.1 in
-      let m = bind_inv (length_in p (has_block k) c.0.1) _ o c.2 in
+      let m = ok_then (length_in p (has_block k) c.0.1) _ o c.2 in
       let m' = length_long (has_block k) c.0.1 m.0 m.1 in
-      let n = bind_inv (length_in p (has_second_block k) m.0.1) _ o m.2 in
+      let n = ok_then (length_in p (has_second_block k) m.0.1) _ o m.2 in
       let n' = length_long (has_second_block k) m.0.1 n.0 n.1 in
-      let X = bind_inv (part_in p m.0.0 n.0.1) _ o n.2 in
+      let X = ok_then (part_in p m.0.0 n.0.1) _ o n.2 in
       let X' = part_long m.0.0 n.0.1 X.0 X.1 in
-      let Y = bind_inv (part_in p n.0.0 X.0.1) _ o X.2 in
+      let Y = ok_then (part_in p n.0.0 X.0.1) _ o X.2 in
       let Y' = part_long n.0.0 X.0.1 Y.0 Y.1 in
       subst (Sized k bs) (same_ok Y.2) (record {
         all = omega arith;

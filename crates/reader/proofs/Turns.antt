@@ -14,7 +14,8 @@ use Rattle.reader.specs.Counting.{counted}
 use Rattle.reader.specs.Readers.{left_of, end_of}
 use Rattle.reader.specs.Extents.{extent, extent_of, joined}
 use Rattle.reader.specs.Told.{after_block, sum_block, sum_statement}
-use Rattle.reader.proofs.Binding.{bind_ok, mapped_ok, mapped_err}
+use Rattle.rules.proofs.Results.{goes_on}
+use Rattle.reader.proofs.Mapped.{mapped_ok, mapped_err}
 use Rattle.reader.proofs.Extending.{joins, joins_none}
 
 past_then : (s : Stmt (Unit {0})) (B : Block (Unit {0})) (a : Counts) → after_block (s then B) a ≡ after_block B (after_statement s a)
@@ -68,7 +69,7 @@ module _ (ds : List Variable) (n t e : ℕ) where
           fuel = f;
           enough = omega arith;
           within = let w = so.within in omega arith;
-          same = same ∙ ap (mapped (and_then x a)) (bind_ok (read_statement ds n (read_block ds n) t a e c bs) _ k.0 k.1 refl) ∙ step s x a (read_statements ds n (read_block ds n) t f (after_statement s a) e k.0.1);
+          same = same ∙ ap (mapped (and_then x a)) (goes_on _ k.1 refl) ∙ step s x a (read_statements ds n (read_block ds n) t f (after_statement s a) e k.0.1);
         }) short
 
   stopped : (whole : List ℕ) (a₀ : Counts) (c : ℕ) (bs : List ℕ) (x : Extent) (a : Counts) (g : LoadFault) → ReadTo whole a₀ (c ∷ bs) x a → Err g ≡ first_of a c bs → Err g ≡ whole_block whole a₀

@@ -18,7 +18,8 @@ use Rattle.reader.specs.Extents.{built}
 use Rattle.reader.specs.Readers.{left_of, end_of, InTurn}
 use Rattle.reader.specs.Seen.{Seen, seen, seen_head}
 use Rattle.reader.specs.Told.{after_block, head_at, sum_block, sum_statement}
-use Rattle.reader.proofs.Binding.{bind_ok, mapped_ok, mapped_err, same_ok}
+use Rattle.rules.proofs.Results.{goes_on, same_ok}
+use Rattle.reader.proofs.Mapped.{mapped_ok, mapped_err}
 use Rattle.reader.proofs.Extending.{builds}
 
 -- No bytes, or no nested block allowed: an empty block.
@@ -90,7 +91,7 @@ module _ (C : Checker) (s : Scope) (B : Reader) (c : ℕ) where
   by_blocks q h =
       let k = mapped_ok (seen_head (e - suc (length bs))) (head_at ds n t a e c bs) q h in
       let P : Seen → Type 0 = λ q. (x : Expression) × (read_statement ds n (read_block ds n) t a e c bs ≡ read_blocks (read_block ds n) t a e (under q x)) in
-      subst P k.2 (k.0.expression, bind_ok (head_at ds n t a e c bs) (read_blocks (read_block ds n) t a e) k.0 k.1 refl)
+      subst P k.2 (k.0.expression, goes_on (read_blocks (read_block ds n) t a e) k.1 refl)
 
   -- What is counted before the first block, where w pars are begun.
   abbrev begun : ℕ → Counts
@@ -155,7 +156,7 @@ module _ (C : Checker) (s : Scope) (B : Reader) (c : ℕ) where
             λ i. mapped (sum_block (between_is i)) (read_block (known i) (same i).nesting (own i) (between_is i) (turn.second_end i) q.second)
 
         by_second : (z : Result (Stmt (Unit {0}) × List ℕ) LoadFault) → ((x : Expression) → (second_rule >>= (λ Y. Ok (build q.form q.byte x X Y, q.after))) ≡ z) → read_statement ds n (read_block ds n) t a e c bs ≡ z
-        by_second z f = let k = by_blocks q h in k.1 ∙ bind_ok first_rule _ X first_there.1 (f k.0)
+        by_second z f = let k = by_blocks q h in k.1 ∙ goes_on _ first_there.1 (f k.0)
 
         pub second_stopped : (g : LoadFault) → Err g ≡ mapped (sum_block (between w b)) second_code → Err g ≡ summary
         second_stopped g s =
@@ -173,4 +174,4 @@ module _ (C : Checker) (s : Scope) (B : Reader) (c : ℕ) where
             (λ i. Ok (is i, d, q.after))
             ∙ (λ i. Ok (built q.form q.byte (sym x_is i) (sym y_is i), sym d_is i, q.after))
             ∙ (λ i. Ok (builds q.form q.byte k.0 X v.0 i, counts_built q.byte k.0 X v.0 a q.form no_X no_Y i, q.after))
-            ∙ ap (mapped (sum_statement a)) (sym (k.1 ∙ bind_ok first_rule _ X first_there.1 (bind_ok second_rule _ v.0 v.1 refl)))
+            ∙ ap (mapped (sum_statement a)) (sym (k.1 ∙ goes_on _ first_there.1 (goes_on _ v.1 refl)))

@@ -1,6 +1,5 @@
 -- What a reader has left.
-use Rattle.std.specs.Prelude.{◌≡◌, ℕ, suc, ◌-◌, ◌&&◌, List, [], ◌∷◌, length, take, drop, Some, None, Ok, Option, Result, nat_le}
-use Rattle.std.specs.Borrow.{Bor}
+use Rattle.std.specs.Prelude.{◌≡◌, ℕ, suc, ◌+◌, ◌-◌, ◌*◌, ◌<◌, ◌≤◌, ◌&&◌, List, [], ◌∷◌, length, take, drop, Some, None, Ok, Option, Result, nat_le}
 use Rattle.rules.specs.Outcomes.{◌>>=◌, ensure}
 use Rattle.rules.specs.Reading.{most_bytes}
 use Rattle.rules.specs.declared.faults.LoadFault.{LoadFault}
@@ -33,22 +32,20 @@ from_place k bs = do
   _ ← ensure (nat_le (length bs) most_bytes && nat_le k (length bs)) BadLength
   Ok (length bs, drop k bs)
 
--- A number that was taken, with the bytes left after it.
-abbrev pub number_left : List ℕ → ℕ → ℕ × List ℕ
-number_left l n = (n, l)
-
--- Bytes that were taken, with those left after them.
-abbrev pub bytes_left : List ℕ → Bor (List ℕ) → List ℕ × List ℕ
-bytes_left l s = (s.now, l)
-
--- A part that was taken, with the bytes left after it.
-abbrev pub part_left : List ℕ → Reader → List ℕ × List ℕ
-part_left l r = (left_of r, l)
-
 -- The first byte of what is left is taken, and the rest is left; at the end nothing is taken.
-abbrev pub CommandTaken : (before after : List ℕ) → Option ℕ → Type 0
-CommandTaken before after None = (before ≡ []) × (after ≡ [])
-CommandTaken before after (Some c) = before ≡ c ∷ after
+abbrev pub ByteTaken : (before after : List ℕ) → Option ℕ → Type 0
+ByteTaken before after None = (before ≡ []) × (after ≡ [])
+ByteTaken before after (Some b) = before ≡ b ∷ after
+
+-- The next n bytes are a part, and those after them are left; where there are fewer, nothing is taken.
+abbrev pub PartTaken : (n : ℕ) (before after : List ℕ) → Option Reader → Type 0
+PartTaken n before after None = length before < n
+PartTaken n before after (Some part) = (n ≤ length before) × (left_of part ≡ take n before) × (after ≡ drop n before)
+
+-- A number of two bytes, the low one first, and those after them are left; where there are fewer, nothing is taken.
+abbrev pub LengthTaken : (before after : List ℕ) → Option ℕ → Type 0
+LengthTaken before after None = length before < 2
+LengthTaken before after (Some n) = (a : ℕ) × (b : ℕ) × (before ≡ a ∷ b ∷ after) × (n ≡ a + b * 256)
 
 -- A part of a block ends where the bytes left after it begin, of which there are as many as `left`, before the block's end.
 abbrev pub EndsBefore : (end : ℕ) (left : List ℕ) → (part : Reader) → Type 0

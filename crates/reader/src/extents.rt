@@ -4,7 +4,7 @@ ghost use Rattle.reader.specs.Extents.{joined as joined_is, either as either_is,
 
 use rules::program::Form;
 
-/// A tick length, and whether each tick in it pauses. That of nothing is the default.
+/// The tick length of a part of the text, and whether every way through it pauses. That of nothing is the default.
 #[derive(Clone, Copy, Default)]
 pub struct Extent {
     pub length: u32,

@@ -5,6 +5,7 @@ ghost use Rattle.rules.specs.declared.faults.LoadFault.TheVariants.{Statement as
 use rules::faults::{LoadFault, Site, StatementFault};
 
 /// A statement's fault, kept whole, with the statement and its thread.
+// `LoadFault::Statement` holds the same two; a type of their own, since `From` takes one value, and by it `?` makes them a fault of the program.
 #[derive(Clone, Copy)]
 pub struct SitedFault {
     pub fault: StatementFault,

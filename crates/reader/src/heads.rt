@@ -80,7 +80,7 @@ impl Checker<'_> {
         if !within_limits(scope.nesting, form, self.counts) {
             return Err(StatementFault::OverLimit(statement));
         }
-        let parts = block.take_parts(form, statement)?;
+        let parts = block.take_parts(form).ok_or(ReadingFault::Cut(statement))?;
         if !flags_known(form, parts.byte) {
             return Err(ReadingFault::Unknown(statement).into());
         }

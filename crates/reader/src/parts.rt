@@ -1,13 +1,14 @@
 //! The parts of a statement's bytes: its byte, its expression, its blocks.
-ghost use Rattle.std.specs.Prelude.{◌≡◌, IfOk};
+ghost use Rattle.std.specs.Prelude.{◌≡◌, ℕ, IfSome};
+ghost use Rattle.std.specs.Option.{ok_or};
 ghost use Rattle.evaluator.specs.Outcomes.{mapped};
 ghost use Rattle.rules.specs.Reading.{parts_in};
+ghost use Rattle.rules.specs.declared.faults.ReadingFault.TheVariants.{Cut};
 ghost use Rattle.reader.specs.Pieces.{pieces};
 ghost use Rattle.reader.specs.Readers.{left_of, end_of, InTurn};
 
 use crate::forms::{has_block, has_byte, has_expression, has_second_block};
 use crate::reader::Reader;
-use rules::faults::ReadingFault;
 use rules::program::Form;
 
 /// What follows a command byte. What there is none of is 0 or empty.
@@ -21,19 +22,28 @@ pub struct Parts<'a> {
 }
 
 impl<'a> Reader<'a> {
-    /// The parts of a statement of this form, whose command was just taken; bytes that the block around it does not have are a cut at the statement's place.
-    pub fn take_parts(&mut self, form: Form, statement: usize) -> Result<Parts<'a>, ReadingFault>
-        ensures answer { mapped (pieces (left_of self.new)) result ≡ parts_in statement form (left_of self.old) }
-        ensures in_turn { IfOk result (λ parts. InTurn (end_of self.old) (left_of self.new) parts.first parts.second) }
+    /// The parts of a statement of this form, whose command was just taken; none where the block around it does not have their bytes.
+    pub fn take_parts(&mut self, form: Form) -> Option<Parts<'a>>
+        ensures answer { (p : ℕ) → mapped (pieces (left_of self.new)) (ok_or result (Cut p)) ≡ parts_in p form (left_of self.old) }
+        ensures in_turn { IfSome result (λ parts. InTurn (end_of self.old) (left_of self.new) parts.first parts.second) }
         ensures end { end_of self.new ≡ end_of self.old }
     {
-        let byte = self.byte(has_byte(form), statement)?;
-        let code = self.code(has_expression(form), statement)?;
-        let first_length = self.length(has_block(form), statement)?;
-        let second_length = self.length(has_second_block(form), statement)?;
-        let first = self.part(first_length, statement)?;
-        let second = self.part(second_length, statement)?;
-        Ok(Parts {
+        let byte = if has_byte(form) { self.byte()? } else { 0 };
+        let long = if has_expression(form) {
+            self.byte()?
+        } else {
+            0
+        };
+        let code = self.part(long.into())?.left();
+        let first_length = if has_block(form) { self.length()? } else { 0 };
+        let second_length = if has_second_block(form) {
+            self.length()?
+        } else {
+            0
+        };
+        let first = self.part(first_length)?;
+        let second = self.part(second_length)?;
+        Some(Parts {
             byte,
             code,
             first,

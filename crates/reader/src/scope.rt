@@ -12,6 +12,7 @@ pub struct Scope {
 }
 
 /// Lends out a scope for a block. When it is dropped, thread and nesting are as they were before the block.
+// A guard, so that both are put back also where a fault cuts the block short.
 pub struct Deeper<'a> {
     pub(crate) scope: &'a mut Scope,
     pub(crate) thread: usize,

@@ -24,18 +24,18 @@ module _ (ds : List Variable) (k : ℕ) (bs : List ℕ) where
   abbrev block_from : Result (ℕ × List ℕ) LoadFault → Result (Block (Unit {0})) LoadFault
   block_from r = r >>= block_of
 
-  -- Main's block is that of the bytes from the place on, if there are such.
-  by_reader : block_from (from_place k bs) ≡ main_in ds k bs
-  by_reader = go (leb (length bs) 4096 && leb k (length bs)) where
+  -- Main's block is that of the bytes from the place on, if there are such and the program is not too long.
+  by_reader : leb (length bs) 4096 ≡ true → block_from (from_place k bs) ≡ main_in ds k bs
+  by_reader h = go (leb k (length bs)) ∙ sym (ap (λ b. ensure (b && leb k (length bs)) BadLength >>= (λ _. block_of (length bs, drop k bs))) h) where
     go : (b : Bool) → block_from (ensure b BadLength >>= (λ _. Ok (length bs, drop k bs))) ≡ (ensure b BadLength >>= (λ _. block_of (length bs, drop k bs)))
     go true = refl
     go false = refl
 
-  module _ (e : ℕ) (l : List ℕ) (text : Ok (e, l) ≡ from_place k bs) (ds' : List Variable) (known : ds' ≡ ds) (a : Counts) (none : a ≡ start) where
+  module _ (short : leb (length bs) 4096 ≡ true) (e : ℕ) (l : List ℕ) (text : Ok (e, l) ≡ from_place k bs) (ds' : List Variable) (known : ds' ≡ ds) (a : Counts) (none : a ≡ start) where
     main_is : mapped (sum_block a) (read_block ds' 16 0 a e l) ≡ mapped (sum_block start) (main_in ds k bs)
     main_is =
         (λ i. mapped (sum_block (none i)) (read_block (known i) 16 0 (none i) e l))
-        ∙ ap (mapped (sum_block start)) (ap block_from text ∙ by_reader)
+        ∙ ap (mapped (sum_block start)) (ap block_from text ∙ by_reader short)
 
     pub main_read : (x : Extent) (b : Kept) → Ok (x, counted b) ≡ mapped (sum_block a) (read_block ds' 16 0 a e l) → Ok (record { extent = x; counts = b }) ≡ mapped summary (main_in ds k bs)
     main_read x b r =

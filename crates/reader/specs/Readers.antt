@@ -1,7 +1,6 @@
 -- What a reader has left.
-use Rattle.std.specs.Prelude.{◌≡◌, ℕ, suc, ◌+◌, ◌-◌, ◌*◌, ◌<◌, ◌≤◌, ◌&&◌, List, [], ◌∷◌, length, take, drop, Some, None, Ok, Option, Result, nat_le}
+use Rattle.std.specs.Prelude.{◌≡◌, ℕ, suc, ◌+◌, ◌-◌, ◌*◌, ◌<◌, ◌≤◌, List, [], ◌∷◌, length, take, drop, Some, None, Ok, Option, Result, nat_le}
 use Rattle.rules.specs.Outcomes.{◌>>=◌, ensure}
-use Rattle.rules.specs.Reading.{most_bytes}
 use Rattle.rules.specs.declared.faults.LoadFault.{LoadFault}
 use Rattle.rules.specs.declared.faults.LoadFault.TheVariants.{BadLength}
 use Rattle.reader.specs.declared.reader.Reader.{Reader}
@@ -29,7 +28,7 @@ end_and_left r = (end_of r, left_of r)
 -- The bytes of a program from place k on, and where they end.
 abbrev pub from_place : (k : ℕ) → List ℕ → Result (ℕ × List ℕ) LoadFault
 from_place k bs = do
-  _ ← ensure (nat_le (length bs) most_bytes && nat_le k (length bs)) BadLength
+  _ ← ensure (nat_le k (length bs)) BadLength
   Ok (length bs, drop k bs)
 
 -- The first byte of what is left is taken, and the rest is left; at the end nothing is taken.

@@ -30,7 +30,7 @@ pub struct Head<'a> {
 
 // Where the expression of a statement begins.
 fn code_begin(form: Form, place: usize) -> usize
-    requires { place ≤ 4096 }
+    requires { place < 2 ^ 63 }
     ensures { (result ≡ place_of_code form place) × (result ≤ place + 3) }
 {
     place + 2 + usize::from(has_byte(form))

@@ -11,8 +11,8 @@ use crate::forms::{has_block, has_byte, has_expression, has_second_block};
 use crate::reader::Reader;
 use rules::program::Form;
 
-/// What follows a command byte. What there is none of is 0 or empty.
 // An enum with the operands of each form would take the same parts in seven arms.
+/// What follows a command byte. What there is none of is 0 or empty.
 #[derive(Clone, Copy)]
 pub struct Parts<'a> {
     pub byte: u8,

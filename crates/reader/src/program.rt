@@ -9,7 +9,7 @@ use crate::extents::Extent;
 use crate::reader::Reader;
 use crate::scope::Scope;
 use rules::faults::LoadFault;
-use rules::program::Variable;
+use rules::program::{MOST_BYTES, Variable};
 
 /// What is known of a text that was read: its extent, how many statements and pars it has, and how many threads.
 #[derive(Clone, Copy)]
@@ -22,6 +22,9 @@ pub struct Summary {
 pub fn read_main(program: &[u8], from: usize, variables: &[Variable]) -> Result<Summary, LoadFault>
     ensures { result ≡ mapped summary (main_in variables.now from program.now) }
 {
+    if program.len() > MOST_BYTES {
+        return Err(LoadFault::BadLength);
+    }
     let text = Reader::new(program, from)?;
     let mut scope = Scope {
         thread: 0,

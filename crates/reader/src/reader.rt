@@ -1,9 +1,8 @@
 //! A reader of a program's bytes, which does not pass the end of a block.
-ghost use Rattle.std.specs.Prelude.{◌≡◌, ◌≤◌, length, IfSome};
+ghost use Rattle.std.specs.Prelude.{◌≡◌, ◌<◌, ◌^◌, ◌≤◌, length, IfSome};
 ghost use Rattle.evaluator.specs.Outcomes.{mapped};
 
 use rules::faults::LoadFault;
-use rules::program::MOST_BYTES;
 
 /// Looks at a program's bytes from a place to the end of a block, both counted from byte 0. The place never passes the block's end.
 #[derive(Clone, Copy)]
@@ -13,18 +12,18 @@ pub struct Reader<'a> {
     end: usize,
     ghost within: { place ≤ end },
     ghost inside: { end ≤ length program.now },
-    ghost short: { end ≤ 4096 },
+    ghost short: { end < 2 ^ 63 },
 }
 
 impl<'a> Reader<'a> {
     ghost use Rattle.reader.specs.Readers.{left_of, end_of, statement_place, end_and_left, from_place, ByteTaken, PartTaken, LengthTaken, EndsBefore};
 
-    /// A reader of the program from a place on.
+    /// A reader of the program from a place on; a place past its end is a bad length.
     pub fn new(program: &'a [u8], place: usize) -> Result<Reader<'a>, LoadFault>
         ensures { mapped end_and_left result ≡ from_place place program.now }
     {
         let end = program.len();
-        if end > MOST_BYTES || place > end {
+        if place > end {
             return Err(LoadFault::BadLength);
         }
         Ok(Reader {

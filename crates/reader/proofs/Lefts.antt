@@ -9,7 +9,7 @@ use Rattle.reader.specs.Readers.{bytes_between, left_of, PartTaken, EndsBefore, 
 use Rattle.reader.specs.declared.reader.Reader.{Reader}
 
 module _ (bs : List ℕ) (p e n : ℕ) (ordered : p ≤ e) (inside : e ≤ length bs) (fits : n ≤ e - p) where
-  -- The others begin after them.
+  -- What follows the first n bytes left.
   rest_of_left : bytes_between bs (p + n) e ≡ drop n (bytes_between bs p e)
   rest_of_left =
       let is : e - (p + n) ≡ e - p - n = omega arith in

@@ -1,14 +1,14 @@
 -- The commands of an expression, as the code takes them one by one.
-use Rattle.std.proofs.Common.{◌≡◌, ℕ, zero, suc, ◌+◌, ◌-◌, ◌<◌, ◌≤◌, Bool, true, false, List, [], ◌∷◌, length, get_or, Some, None, Ok, Err, Option, Result, sym, refl, ap, ◌∙◌, arith}
+use Rattle.std.proofs.Common.{◌≡◌, ℕ, zero, suc, ◌+◌, ◌-◌, ◌<◌, ◌≤◌, List, [], ◌∷◌, length, get_or, Ok, Err, Option, Result, sym, refl, ap, ◌∙◌, arith}
 use Rattle.std.proofs.lemmas.Bool.{le-leb, and_from}
 use Rattle.std.proofs.lemmas.Grind.{common_steps}
 use Rattle.evaluator.specs.Commands.{Command, Placed, next_command, listed, listing, commands_of}
 use Rattle.evaluator.specs.Evaluating.{longest}
 use Rattle.evaluator.specs.Outcomes.{mapped}
 use Rattle.rules.specs.Outcomes.{◌>>=◌, ensure}
-use Rattle.rules.specs.Reading.{takes, stackable, command_readable, checked, read_expression}
+use Rattle.rules.specs.Reading.{checked, read_expression}
 use Rattle.rules.specs.declared.faults.StatementFault.{StatementFault}
-use Rattle.rules.specs.declared.faults.StatementFault.TheVariants.{BadExpression, WrongVariable}
+use Rattle.rules.specs.declared.faults.StatementFault.TheVariants.{BadExpression}
 use Rattle.rules.specs.declared.program.Variable.{Variable}
 use Rattle.reader.specs.Steps.{one_command, unit}
 
@@ -23,21 +23,9 @@ module _ (ds : List Variable) (t origin at : ℕ) where
   abbrev on : (List ℕ → List Placed) → Result (ℕ × List ℕ) StatementFault → Result (Unit {0}) StatementFault
   on more r = r >>= (λ q. mapped unit (checked ds t origin at q.0 (more q.1)))
 
-  forgets : {A B : Type 0} (r : Result A StatementFault) (f : A → B) → mapped unit (r >>= (λ a. Ok (f a))) ≡ mapped unit r
-  forgets (Ok a) f = refl
-  forgets (Err g) f = refl
-
   -- Checking what is listed is taking the first command and checking the others.
   by_steps : (more : List ℕ → List Placed) (p d : ℕ) (o : Option (Command × List ℕ)) → mapped unit (checked ds t origin at d (listed more p o)) ≡ on more (one_command ds t (origin + p) d o)
-  by_steps more p d None = refl
-  by_steps more p d (Some c) = stacked (stackable c.0 d) where
-    read : (can : Bool) → mapped unit (ensure can (WrongVariable (origin + p)) >>= (λ _. checked ds t origin at (d - takes c.0 + 1) (more c.1) >>= (λ e. Ok (c.0 ∷ e)))) ≡ on more (ensure can (WrongVariable (origin + p)) >>= (λ _. Ok (d - takes c.0 + 1, c.1)))
-    read true = forgets (checked ds t origin at (d - takes c.0 + 1) (more c.1)) (λ e. c.0 ∷ e)
-    read false = refl
-
-    stacked : (fits : Bool) → mapped unit (ensure fits (BadExpression (origin + p)) >>= (λ _. ensure (command_readable ds t c.0) (WrongVariable (origin + p)) >>= (λ _. checked ds t origin at (d - takes c.0 + 1) (more c.1) >>= (λ e. Ok (c.0 ∷ e))))) ≡ on more (ensure fits (BadExpression (origin + p)) >>= (λ _. ensure (command_readable ds t c.0) (WrongVariable (origin + p)) >>= (λ _. Ok (d - takes c.0 + 1, c.1))))
-    stacked true = read (command_readable ds t c.0)
-    stacked false = refl
+  by_steps more p d o = grind (arith, common_steps)
 
   -- With `left` left of `code` and d values stacked, checking what is left answers what checking all does.
   pub record CheckedTo (code left : List ℕ) (d : ℕ) : Type 0 where

@@ -1,6 +1,7 @@
 -- The head of a statement with a wrong expression, and the site that is added to its fault.
-use Rattle.std.proofs.Common.{◌≡◌, ℕ, suc, ◌-◌, true, List, length, Some, Ok, Err, Result, MatchResult, IsErrAnd, sym, ap, ◌∙◌}
+use Rattle.std.proofs.Common.{◌≡◌, ℕ, suc, ◌-◌, true, List, length, Some, Ok, Err, Result, MatchResult, IsErrAnd, sym, ap, ◌∙◌, arith}
 use Rattle.evaluator.specs.Outcomes.{mapped}
+use Rattle.std.proofs.lemmas.Grind.{common_steps}
 use Rattle.rules.specs.Encoding.{form_byte}
 use Rattle.rules.specs.Forms.{forms, has_expression, flags_known}
 use Rattle.rules.specs.Outcomes.{◌>>=◌, refused_as, numbered}
@@ -33,9 +34,7 @@ module _ (ds : List Variable) (n t : ℕ) (a : Counts) (c : ℕ) (bs : List ℕ)
   at_site f = Statement f (record { statement = a.statements; thread = t })
 
   told_sited : (l : List ℕ) (r : Result Head StatementFault) (z : Result Head SitedFault) {P : StatementFault → SitedFault → Type 0} → MatchResult r (λ h. z ≡ Ok h) (λ f. IsErrAnd z (P f)) → ((f : StatementFault) (s : SitedFault) → P f s → s ≡ record { fault = f; site = record { statement = a.statements; thread = t } }) → told_head l z ≡ refused_as at_site (mapped (seen l) r)
-  told_sited l (Ok h) z is so = ap (told_head l) is
-  told_sited l (Err f) (Ok h) is so = absurd is
-  told_sited l (Err f) (Err s) is so = ap (λ (s : SitedFault). Err (Statement s.fault s.site)) (so f s is)
+  told_sited l r z is so = grind (arith, common_steps)
 
   -- What the head answers, with the site added to its fault, of a statement in a block that ends at e.
   pub sited : (e : ℕ) (l : List ℕ) (r : Result Head StatementFault) (z : Result Head SitedFault) {P : StatementFault → SitedFault → Type 0} → MatchResult r (λ h. z ≡ Ok h) (λ f. IsErrAnd z (P f)) → ((f : StatementFault) (s : SitedFault) → P f s → s ≡ record { fault = f; site = record { statement = a.statements; thread = t } })

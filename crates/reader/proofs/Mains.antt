@@ -1,11 +1,11 @@
 -- Main's block, as the code reads it.
-use Rattle.std.proofs.Common.{◌≡◌, ℕ, Bool, true, false, ◌&&◌, leb, List, length, drop, Ok, Err, Result, sym, refl, ap, ◌∙◌}
+use Rattle.std.proofs.Common.{◌≡◌, ℕ, true, leb, List, length, Ok, Err, Result, sym, ap, ◌∙◌, arith}
+use Rattle.std.proofs.lemmas.Grind.{common_steps}
 use Rattle.evaluator.specs.Outcomes.{mapped}
-use Rattle.rules.specs.Outcomes.{◌>>=◌, ensure}
+use Rattle.rules.specs.Outcomes.{◌>>=◌}
 use Rattle.rules.specs.Reading.{Counts, start, read_block}
 use Rattle.rules.specs.Text.{Block}
 use Rattle.rules.specs.declared.faults.LoadFault.{LoadFault}
-use Rattle.rules.specs.declared.faults.LoadFault.TheVariants.{BadLength}
 use Rattle.rules.specs.declared.program.Variable.{Variable}
 use Rattle.reader.specs.declared.extents.Extent.{Extent}
 use Rattle.reader.specs.declared.counts.Counts.{Counts as Kept}
@@ -26,10 +26,7 @@ module _ (ds : List Variable) (k : ℕ) (bs : List ℕ) where
 
   -- Main's block is that of the bytes from the place on, if there are such and the program is not too long.
   by_reader : leb (length bs) 4096 ≡ true → block_from (from_place k bs) ≡ main_in ds k bs
-  by_reader h = go (leb k (length bs)) ∙ sym (ap (λ b. ensure (b && leb k (length bs)) BadLength >>= (λ _. block_of (length bs, drop k bs))) h) where
-    go : (b : Bool) → block_from (ensure b BadLength >>= (λ _. Ok (length bs, drop k bs))) ≡ (ensure b BadLength >>= (λ _. block_of (length bs, drop k bs)))
-    go true = refl
-    go false = refl
+  by_reader h = grind (arith, common_steps)
 
   module _ (short : leb (length bs) 4096 ≡ true) (e : ℕ) (l : List ℕ) (text : Ok (e, l) ≡ from_place k bs) (ds' : List Variable) (known : ds' ≡ ds) (a : Counts) (none : a ≡ start) where
     main_is : mapped (sum_block a) (read_block ds' 16 0 a e l) ≡ mapped (sum_block start) (main_in ds k bs)

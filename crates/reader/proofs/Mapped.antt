@@ -1,5 +1,5 @@
 -- What an accepted or refused image is the image of.
-use Rattle.std.proofs.Common.{◌≡◌, IsErrAnd, Ok, Err, Result, sym, refl, ap}
+use Rattle.std.proofs.Common.{◌≡◌, IsErrAnd, Ok, Err, Result, sym, refl, arith}
 use Rattle.evaluator.specs.Outcomes.{mapped}
 use Rattle.rules.specs.Outcomes.{refused_as}
 use Rattle.rules.proofs.Results.{not_both}
@@ -12,15 +12,12 @@ module _ {A B E : Type 0} where
 
   -- A refused image is the image of that refusal.
   pub mapped_err : (f : A → B) (r : Result A E) (g : E) → Err g ≡ mapped f r → r ≡ Err g
-  mapped_err f (Ok a) g e = not_both e
-  mapped_err f (Err h) g e = cc
+  mapped_err f r g e = grind arith
 
   -- A refusal that `?` hands on.
   pub err_mapped : (f : A → B) (r : Result A E) (g : E) → IsErrAnd r (λ e. e ≡ g) → mapped f r ≡ Err g
-  err_mapped f (Ok a) g h = absurd h
-  err_mapped f (Err e) g h = ap Err h
+  err_mapped f r g h = grind arith
 
 -- What an upper layer makes of a refusal is made whatever becomes of the answer.
 pub refused_mapped : {A B E F : Type 0} (f : A → B) (g : E → F) (r : Result A E) → mapped f (refused_as g r) ≡ refused_as g (mapped f r)
-refused_mapped f g (Ok a) = refl
-refused_mapped f g (Err e) = refl
+refused_mapped f g r = grind arith

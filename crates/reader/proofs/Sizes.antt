@@ -1,6 +1,6 @@
 -- How long the parts of a statement are, and where its expression stands.
-use Rattle.std.proofs.Common.{◌≡◌, ℕ, ◌+◌, ◌-◌, ◌<◌, ◌≤◌, Bool, true, false, cond, leb, List, [], ◌∷◌, length, take, drop, Ok, sym, refl, ap, ◌∙◌, subst, arith, length-drop, length-take}
-use Rattle.std.proofs.lemmas.Bool.{true≢false, false≢true, leb-true, ltb-true, and_parts}
+use Rattle.std.proofs.Common.{◌≡◌, ℕ, ◌+◌, ◌-◌, ◌<◌, ◌≤◌, Bool, true, false, cond, List, [], length, take, drop, Ok, sym, ap, ◌∙◌, subst, arith}
+use Rattle.std.proofs.lemmas.Grind.{common_steps}
 use Rattle.rules.specs.Forms.{has_byte, has_expression, has_block, has_second_block, par_count}
 use Rattle.rules.specs.Reading.{Parts, byte_in, part_in, code_in, length_in, parts_in, place_of_code, within_limits, Counts as Counted}
 use Rattle.rules.specs.declared.program.Form.{Form}
@@ -9,7 +9,7 @@ use Rattle.reader.specs.declared.heads.Head.{Head}
 use Rattle.reader.specs.Counting.{counted}
 use Rattle.reader.specs.Readers.{left_of}
 use Rattle.reader.specs.Seen.{Fine}
-use Rattle.rules.proofs.Results.{not_both, ok_then, ensure_then, same_ok}
+use Rattle.rules.proofs.Results.{ok_then, same_ok}
 
 module _ (p : ℕ) where
   -- A part and what follows it make up the bytes.
@@ -19,40 +19,22 @@ module _ (p : ℕ) where
     pub front : q.0 ≡ take n bs
 
   part_long : (n : ℕ) (bs : List ℕ) (q : List ℕ × List ℕ) → part_in p n bs ≡ Ok q → Parted n bs q
-  part_long n bs q e =
-      let u = ensure_then (leb n (length bs)) _ _ q e in
-      let le = leb-true n (length bs) u.0 in
-      let a = length-take n bs in let b = length-drop n bs in
-      subst (Parted n bs) (same_ok u.1) (record { all = omega arith; long = omega arith; front = refl })
+  part_long n bs q e = record { all = grind (arith, common_steps); long = grind (arith, common_steps); front = grind (arith, common_steps) }
 
   byte_long : (w : Bool) (bs : List ℕ) (q : ℕ × List ℕ) → byte_in p w bs ≡ Ok q → (length q.1 ≤ length bs) × (q.1 ≡ drop (cond w 1 0) bs)
-  byte_long w bs q e = go w bs e where
-    go : (w : Bool) (bs : List ℕ) → byte_in p w bs ≡ Ok q → (length q.1 ≤ length bs) × (q.1 ≡ drop (cond w 1 0) bs)
-    go false bs e = let P : ℕ × List ℕ → Type 0 = λ q. (length q.1 ≤ length bs) × (q.1 ≡ bs) in subst P (same_ok e) (omega arith, refl)
-    go true [] e = not_both e
-    go true (b ∷ bs) e = let P : ℕ × List ℕ → Type 0 = λ q. (length q.1 ≤ length (b ∷ bs)) × (q.1 ≡ bs) in subst P (same_ok e) (omega arith, refl)
+  byte_long w bs q e = (grind (arith, common_steps), grind (arith, common_steps))
 
   code_long : (w : Bool) (bs : List ℕ) (q : List ℕ × List ℕ) → code_in p w bs ≡ Ok q → (length q.0 + length q.1 ≤ length bs) × (w ≡ true → q.0 ≡ take (length q.0) (drop 1 bs))
-  code_long false bs q e =
-      let P : List ℕ × List ℕ → Type 0 = λ q. (length q.0 + length q.1 ≤ length bs) × (false ≡ true → q.0 ≡ take (length q.0) (drop 1 bs)) in
-      subst P (same_ok e) (omega arith, λ h. absurd (false≢true h))
-  code_long true [] q e = not_both e
-  code_long true (n ∷ bs) q e = let h = part_long n bs q e in let all = h.all in (omega arith, λ _. h.front ∙ ap (λ m. take m bs) (sym h.long))
+  code_long w bs q e = (grind (arith, common_steps), λ h. grind (arith, common_steps))
 
   length_long : (w : Bool) (bs : List ℕ) (q : ℕ × List ℕ) → length_in p w bs ≡ Ok q → (length q.1 ≤ length bs) × (w ≡ false → q.0 ≡ 0)
-  length_long false bs q e = let P : ℕ × List ℕ → Type 0 = λ q. (length q.1 ≤ length bs) × (false ≡ false → q.0 ≡ 0) in subst P (same_ok e) (omega arith, λ _. refl)
-  length_long true [] q e = not_both e
-  length_long true (a ∷ []) q e = not_both e
-  length_long true (a ∷ b ∷ bs) q e = let P : ℕ × List ℕ → Type 0 = λ q. (length q.1 ≤ length (a ∷ b ∷ bs)) × (true ≡ false → q.0 ≡ 0) in subst P (same_ok e) (omega arith, λ h. absurd (true≢false h))
+  length_long w bs q e = (grind (arith, common_steps), λ h. grind (arith, common_steps))
 
   none : (xs : List ℕ) → length xs ≡ 0 → xs ≡ []
-  none [] h = refl
-  none (x ∷ xs) h = absurd (omega arith)
+  none xs h = grind (arith, common_steps)
 
   drop_two : (w : Bool) (bs : List ℕ) → drop 1 (drop (cond w 1 0) bs) ≡ drop (0 + 2 + cond w 1 0 - 1) bs
-  drop_two true [] = refl
-  drop_two true (b ∷ bs) = refl
-  drop_two false bs = refl
+  drop_two w bs = grind (arith, common_steps)
 
   -- What the parts of a statement say of their lengths.
   record Sized (k : Form) (bs : List ℕ) (o : Parts) : Type 0 where
@@ -84,7 +66,7 @@ module _ (p : ℕ) where
 
 -- What the limits say when they hold.
 limits_from : (n : ℕ) (k : Form) (a : Counted) → within_limits n k a ≡ true → (a.statements < 512) × (a.pars + par_count k ≤ 15)
-limits_from n k a e = let u = and_parts _ _ e in (ltb-true _ _ u.0, leb-true _ _ (and_parts _ _ u.1).0)
+limits_from n k a e = (grind (arith, common_steps), grind (arith, common_steps))
 
 -- An accepted head is within the limits, and its parts are parts of the bytes.
 pub fine_head : (bs left : List ℕ) (n p : ℕ) (a : Counts) (h : Head) → true ≡ within_limits n h.form (counted a) → Ok (record { byte = h.parts.byte; code = h.parts.code.now; first = left_of h.parts.first; second = left_of h.parts.second; after = left }) ≡ parts_in p h.form bs → Fine bs left a h

@@ -1,9 +1,10 @@
 -- A block by its statements, as the code reads them one by one.
-use Rattle.std.proofs.Common.{◌≡◌, ℕ, zero, suc, ◌+◌, ◌*◌, ◌^◌, ◌<◌, ◌≤◌, false, List, ◌∷◌, length, Ok, Err, Result, sym, refl, ap, ◌∙◌, subst, arith}
+use Rattle.std.proofs.Common.{◌≡◌, ℕ, zero, suc, ◌^◌, ◌<◌, ◌≤◌, false, List, ◌∷◌, length, Ok, Err, Result, sym, refl, ap, ◌∙◌, subst, arith}
+use Rattle.std.proofs.lemmas.Grind.{common_steps}
 use Rattle.evaluator.specs.Outcomes.{mapped}
 use Rattle.rules.specs.Outcomes.{◌>>=◌}
 use Rattle.rules.specs.Reading.{Counts, after_statement, read_statement, read_statements, read_block}
-use Rattle.rules.specs.Text.{Stmt, Block, ◌then◌, count, pars, count_of, pars_of}
+use Rattle.rules.specs.Text.{Stmt, Block, ◌then◌}
 use Rattle.rules.specs.declared.faults.LoadFault.{LoadFault}
 use Rattle.rules.specs.declared.program.Variable.{Variable}
 use Rattle.reader.specs.declared.extents.Extent.{Extent}
@@ -19,11 +20,7 @@ use Rattle.reader.proofs.Mapped.{mapped_ok, mapped_err}
 use Rattle.reader.proofs.Extending.{joins, joins_none}
 
 past_then : (s : Stmt (Unit {0})) (B : Block (Unit {0})) (a : Counts) → after_block (s then B) a ≡ after_block B (after_statement s a)
-past_then s B a =
-    let p : a.statements + (count_of s + count B) ≡ a.statements + count_of s + count B = omega arith in
-    let q : a.pars + (pars_of s + pars B) ≡ a.pars + pars_of s + pars B = omega arith in
-    let r : a.threads + 2 * (pars_of s + pars B) ≡ a.threads + 2 * pars_of s + 2 * pars B = omega arith in
-    λ i. record { statements = p i; pars = q i; threads = r i }
+past_then s B a = grind (arith, common_steps)
 
 module _ (ds : List Variable) (n t e : ℕ) where
   -- What a block adds to what was read before it.

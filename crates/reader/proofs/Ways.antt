@@ -1,10 +1,11 @@
 -- A statement by its head and its blocks.
-use Rattle.std.proofs.Common.{◌≡◌, ℕ, zero, suc, ◌+◌, ◌-◌, ◌*◌, false, List, [], length, Ok, Err, Result, sym, refl, ap, ◌∙◌, subst, arith}
+use Rattle.std.proofs.Common.{◌≡◌, ℕ, zero, suc, ◌+◌, ◌-◌, false, List, [], length, Ok, Err, Result, sym, refl, ap, ◌∙◌, subst, arith}
+use Rattle.std.proofs.lemmas.Grind.{common_steps}
 use Rattle.evaluator.specs.Outcomes.{mapped}
 use Rattle.rules.specs.Forms.{has_block, has_second_block, par_count, build}
 use Rattle.rules.specs.Outcomes.{◌>>=◌}
 use Rattle.rules.specs.Reading.{Counts, Head as Headed, after_statement, before_first, before_second, block_thread, read_blocks, read_statement, read_block}
-use Rattle.rules.specs.Text.{Expression, Stmt, Block, end, count, pars, count_of, pars_of}
+use Rattle.rules.specs.Text.{Expression, Stmt, Block, end}
 use Rattle.rules.specs.declared.faults.LoadFault.{LoadFault}
 use Rattle.rules.specs.declared.program.Form.{Form}
 use Rattle.rules.specs.declared.program.Variable.{Variable}
@@ -28,29 +29,8 @@ read_empty ds zero t a e bs h = refl
 read_empty ds (suc n) t a e bs h = ap (read_block ds (suc n) t a e) h
 
 -- The counts after a statement are those after its second block; blocks that it does not have are empty.
-module _ (o : ℕ) (x : Expression) (X Y : Block (Unit {0})) (a : Counts) where
-  counts_from : (k : Form) → count_of (build k o x X Y) ≡ 1 + count X + count Y → pars_of (build k o x X Y) ≡ par_count k + pars X + pars Y → after_block Y (before_second k X a) ≡ after_statement (build k o x X Y) a
-  counts_from k n m =
-      let s : a.statements + 1 + count X + count Y ≡ a.statements + count_of (build k o x X Y) = omega arith in
-      let p : a.pars + par_count k + pars X + pars Y ≡ a.pars + pars_of (build k o x X Y) = omega arith in
-      let u : a.threads + par_count k + 2 * pars X + par_count k + 2 * pars Y ≡ a.threads + 2 * pars_of (build k o x X Y) = omega arith in
-      λ i. record { statements = s i; pars = p i; threads = u i }
-
-  -- A form without blocks, and one without a second block.
-  none : (k : Form) → count_of (build k o x X Y) ≡ 1 → pars_of (build k o x X Y) ≡ par_count k → X ≡ end → Y ≡ end → after_block Y (before_second k X a) ≡ after_statement (build k o x X Y) a
-  none k n m f g = let cX = ap count f in let cY = ap count g in let pX = ap pars f in let pY = ap pars g in counts_from k (omega arith) (omega arith)
-
-  one : (k : Form) → count_of (build k o x X Y) ≡ 1 + count X → pars_of (build k o x X Y) ≡ par_count k + pars X → Y ≡ end → after_block Y (before_second k X a) ≡ after_statement (build k o x X Y) a
-  one k n m g = let cY = ap count g in let pY = ap pars g in counts_from k (omega arith) (omega arith)
-
-  counts_built : (k : Form) → (has_block k ≡ false → X ≡ end) → (has_second_block k ≡ false → Y ≡ end) → after_block Y (before_second k X a) ≡ after_statement (build k o x X Y) a
-  counts_built Form.Nothing f g = none Form.Nothing refl refl (f refl) (g refl)
-  counts_built Form.Set f g = none Form.Set refl refl (f refl) (g refl)
-  counts_built Form.Pause f g = none Form.Pause refl refl (f refl) (g refl)
-  counts_built Form.If f g = counts_from Form.If (omega arith) (omega arith)
-  counts_built Form.Loop f g = one Form.Loop refl (omega arith) (g refl)
-  counts_built Form.Par f g = counts_from Form.Par (omega arith) (omega arith)
-  counts_built Form.Abort f g = one Form.Abort refl (omega arith) (g refl)
+counts_built : (o : ℕ) (x : Expression) (X Y : Block (Unit {0})) (a : Counts) (k : Form) → (has_block k ≡ false → X ≡ end) → (has_second_block k ≡ false → Y ≡ end) → after_block Y (before_second k X a) ≡ after_statement (build k o x X Y) a
+counts_built o x X Y a k f g = grind (arith, common_steps)
 
 -- The statement that begins with c, in the scope s, where the reader B has left what follows the command.
 module _ (C : Checker) (s : Scope) (B : Reader) (c : ℕ) where
@@ -106,7 +86,7 @@ module _ (C : Checker) (s : Scope) (B : Reader) (c : ℕ) where
     q = seen (left_of A) o
 
     first_end : o.parts.first.end ≡ e - length q.after - length q.second
-    first_end = turn.first_end ∙ ap (λ k. k - length q.second) turn.second_end
+    first_end = let f = turn.first_end in let g = turn.second_end in omega arith
 
     -- The first block, as the code reads it and as the rules do.
     abbrev first_code : Result (Block (Unit {0})) LoadFault

@@ -38,12 +38,12 @@ ByteTaken before after (Some b) = before ≡ b ∷ after
 
 -- The next n bytes are a part, and those after them are left; where there are fewer, nothing is taken.
 abbrev pub PartTaken : (n : ℕ) (before after : List ℕ) → Option Reader → Type 0
-PartTaken n before after None = length before < n
+PartTaken n before after None = (length before < n) × (after ≡ before)
 PartTaken n before after (Some part) = (n ≤ length before) × (left_of part ≡ take n before) × (after ≡ drop n before)
 
 -- A number of two bytes, the low one first, and those after them are left; where there are fewer, nothing is taken.
 abbrev pub LengthTaken : (before after : List ℕ) → Option ℕ → Type 0
-LengthTaken before after None = length before < 2
+LengthTaken before after None = (length before < 2) × (after ≡ before)
 LengthTaken before after (Some n) = (a : ℕ) × (b : ℕ) × (before ≡ a ∷ b ∷ after) × (n ≡ a + b * 256)
 
 -- A part of a block ends where the bytes left after it begin, of which there are as many as `left`, before the block's end.

@@ -6,7 +6,6 @@ use Rattle.rules.specs.Forms.{has_byte, has_expression, has_block, has_second_bl
 use Rattle.rules.specs.Reading.{byte_in, length_in, part_in}
 use Rattle.reader.proofs.Lefts.{part_there, all_there, in_turn}
 use Rattle.reader.proofs.reader.Reader.take_parts.Goals as goal
-use Rattle.reader.proofs.reader.Reader.take_parts.Goals.{then-has_byte+in_ok-byte, else-has_byte, then-has_expression+in_ok-long, else-has_expression, then-has_block+in_ok-first_length, else-has_block, then-has_second_block+in_ok-second_length, else-has_second_block}
 
 pub returns-clause-answer : goal.returns-clause-answer
 returns-clause-answer c p =

@@ -1,5 +1,5 @@
 -- The evaluator's loop: after each turn, what is left to do gives what the whole gives.
-use Rattle.std.proofs.Common.{◌≡◌, ℕ, zero, suc, ◌-◌, ◌<◌, ◌≤◌, List, [], ◌∷◌, length, Ok, Err, Option, sym, refl, ap, ◌∙◌, arith}
+use Rattle.std.proofs.Common.{◌≡◌, ℕ, zero, suc, ◌-◌, ◌<◌, ◌≤◌, List, [], ◌∷◌, length, Ok, Err, Option, sym, ap, ◌∙◌, arith}
 use Rattle.std.proofs.lemmas.Grind.{common_steps}
 use Rattle.arithmetic.specs.Meaning.{Meaning}
 use Rattle.evaluator.specs.Commands.{Command, next_command, listed, listing, commands_of, Placed}
@@ -15,9 +15,6 @@ module _ {V : Type 0} (M : Meaning V) (look : ℕ → Option V) where
     pub within : length rest ≤ length code
     pub same : run M look (commands_of code) [] ≡ run M look (listing fuel (length code) rest) st
 
-  pub first_turn : (code : List ℕ) → Turn code code []
-  first_turn code = record { fuel = length code; enough = omega arith; within = omega arith; same = refl }
-
   -- Taking the first command and running the others is running all.
   run_taken : (more : List ℕ → List Placed) (p : ℕ) (o : Option (Command × List ℕ)) (st : List V) →
       run M look (listed more p o) st ≡ and_then (taken M look p o st) (λ q. run M look (more q.1) q.0)
@@ -31,10 +28,10 @@ module _ {V : Type 0} (M : Meaning V) (look : ℕ → Option V) where
   left_first (suc n) e (b ∷ bs) st h k = (n, k, run_taken (listing n e) (e - length (b ∷ bs)) (next_command (b ∷ bs)) st)
 
   -- One turn more.
-  pub next_turn : (code rest rest' : List ℕ) (st st' : List V) → Turn code rest st → 0 < length rest → length rest' < length rest →
+  pub next_turn : (code rest rest' : List ℕ) (st st' : List V) → Turn code rest st → length rest' < length rest →
       Ok (st', rest') ≡ taken M look (length code - length rest) (next_command rest) st → Turn code rest' st'
-  next_turn code rest rest' st st' t some shorter e =
-      let f = left_first t.fuel (length code) rest st some t.enough in
+  next_turn code rest rest' st st' t shorter e =
+      let f = left_first t.fuel (length code) rest st (omega arith) t.enough in
       let long = f.1 in let w = t.within in
       record {
         fuel = f.0;
@@ -49,7 +46,3 @@ module _ {V : Type 0} (M : Meaning V) (look : ℕ → Option V) where
   refused_turn code rest st r t some e =
       let f = left_first t.fuel (length code) rest st some t.enough in
       t.same ∙ f.2 ∙ ap (λ q. and_then q (λ (q : List V × List ℕ). run M look (listing f.0 (length code) q.1) q.0)) (sym e)
-
-  -- With nothing left, what is stacked is what all commands give.
-  pub last_turn : (code rest : List ℕ) (st : List V) → Turn code rest st → length rest ≡ 0 → run M look (commands_of code) [] ≡ Ok st
-  last_turn code rest st t e = let same = t.same in grind (arith, common_steps)

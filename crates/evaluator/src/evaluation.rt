@@ -25,7 +25,7 @@ pub const DEEPEST: usize = 16;
 pub const LONGEST: usize = 64;
 
 // An expression's evaluation: the arithmetic and the scope that it goes by, what the variables hold, and the stack of its values, with room for 16.
-// The variables and the stack have each a lifetime: with one for both, the check does not know what the memory holds in the end.
+// The variables and the stack have each a lifetime of its own: where one shares another's, the check does not know what the memory holds in the end.
 #[derive(Drop)]
 struct Evaluation<'a, 'v, 'm, A: Arithmetic, S> {
     arithmetic: &'a A,

@@ -1,5 +1,5 @@
 //! Making a stack, and pushing and popping values.
-ghost use Rattle.std.specs.Prelude.{◌≡◌, ◌<◌, [], ◌∷◌, length, is_ok, IfSome, if◌then◌else◌, nat_lt, slice_index_or, slice_set};
+ghost use Rattle.std.specs.Prelude.{◌≡◌, ◌<◌, [], ◌∷◌, length, is_ok, IfSome, if◌then◌else◌, nat_lt, slice_set};
 ghost use Rattle.stack.specs.Stacks.{stacked, room, popped_value, popped_rest, SamePlaces};
 
 use crate::Stack;
@@ -10,7 +10,7 @@ pub struct Full;
 
 impl<'a, T: Copy> Stack<'a, T> {
     /// An empty stack, with room for a value in each of the places.
-    pub fn new(places: &'a mut [T]) -> Stack<'a, T>
+    pub fn new(places: &'a mut [T]) -> Self
         ensures empty { stacked result ≡ [] }
         ensures room { room result ≡ length places.old }
         ensures memory { result.places.now ≡ places.old }

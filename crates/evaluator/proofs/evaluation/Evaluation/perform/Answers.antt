@@ -2,7 +2,6 @@ use Rattle.std.proofs.Common.{◌≡◌, get_or, arith}
 use Rattle.std.proofs.lemmas.Grind.{common_steps}
 use Rattle.arithmetic.specs.Operators.{operator_byte}
 use Rattle.evaluator.specs.Commands.{operator, next_command}
-use Rattle.evaluator.specs.Evaluating.{value_of}
 use Rattle.stack.specs.Stacks.{stacked}
 use Rattle.evaluator.proofs.Taking.{from, operators_cover, operator_first, taken_ok, refused_first}
 use Rattle.evaluator.proofs.evaluation.Evaluation.perform.Goals as goal
@@ -17,19 +16,12 @@ returns-in_err-operator-in-66-to-72-clause-answer g c =
 pub returns-in_ok-operate_on_two-in-66-to-72-clause-answer :
     goal.returns-in_ok-operate_on_two-in-66-to-72-clause-answer
 returns-in_ok-operate_on_two-in-66-to-72-clause-answer g c =
-    let M = g.A.Arithmetic.meaning c.args.self.now.arithmetic.now in
-    let s = c.args.self.now.stack in
     let bs = c.args.code.now in
     let o = c.in_ok-operator-in-66-to-72.operator in
     let e = c.try_from.ensures in
     let byte : operator_byte o ≡ get_or bs 0 0 = grind (arith, common_steps) in
-    taken_ok M (value_of c.args.self.now.variables.now (g.S.Scope.places c.args.self.now.scope.now)) c.args.place (next_command bs) (operator o) (from 1 bs)
-    (stacked s) (stacked c.operate_on_two.new.self.stack) (operator_first bs o byte) c.in_ok-operate_on_two-in-66-to-72.ensures.answer
+    taken_ok (g.A.Arithmetic.meaning c.args.self.now.arithmetic.now) _ _ (next_command bs) (operator o) (from 1 bs) _ _ (operator_first bs o byte) c.in_ok-operate_on_two-in-66-to-72.ensures.answer
 
 pub returns-in_default-clause-answer : goal.returns-in_default-clause-answer
 returns-in_default-clause-answer g c =
-    let M = g.A.Arithmetic.meaning c.args.self.now.arithmetic.now in
-    let s = c.args.self.now.stack in
-    let bs = c.args.code.now in
-    refused_first M (value_of c.args.self.now.variables.now (g.S.Scope.places c.args.self.now.scope.now)) c.args.place bs (stacked s)
-    (λ e h. grind arith) (λ e h. grind arith) (λ e h k. grind arith) (λ e h. grind arith)
+    refused_first (g.A.Arithmetic.meaning c.args.self.now.arithmetic.now) _ _ c.args.code.now (stacked c.args.self.now.stack) (λ e h. grind arith) (λ e h. grind arith) (λ e h k. grind arith) (λ e h. grind arith)

@@ -1,5 +1,5 @@
-use Rattle.std.proofs.Common.{◌≡◌, Ok, Err, sym, ap, ◌∙◌, subst, arith, rules}
-use Rattle.std.proofs.lemmas.Result.{err_from_is_err_and}
+use Rattle.std.proofs.Common.{◌≡◌, Ok, sym, ap, ◌∙◌, subst, arith, rules}
+use Rattle.std.proofs.lemmas.Grind.{common_steps}
 use Rattle.evaluator.specs.Outcomes.{mapped}
 use Rattle.evaluator.specs.Rates.{Within}
 use Rattle.evaluator.proofs.Sampling.{rate_is}
@@ -7,11 +7,10 @@ use Rattle.evaluator.proofs.rate.Formula.rate.Goals as goal
 
 pub returns-in_err-value-clause-answer : goal.returns-in_err-value-clause-answer
 returns-in_err-value-clause-answer g c =
-    let M = g.A.Arithmetic.meaning c.args.arithmetic.now in
     let f = c.args.self in
-    let p = err_from_is_err_and c.from_residual.result c.from_residual.ensures.1 in
-    p.1 ∙ ap Err p.2 ∙ ap (mapped (M.limited f.limits.low f.limits.high)) c.in_err-value.ensures.answer
-    ∙ rate_is M c.args.readings.now c.place_readings.new.memory f.code.now f.limits.low f.limits.high (omega arith) (omega arith) c.place_readings.ensures
+    let same = rate_is (g.A.Arithmetic.meaning c.args.arithmetic.now) c.args.readings.now c.place_readings.new.memory f.code.now f.limits.low f.limits.high
+    (omega arith) (omega arith) c.place_readings.ensures in
+    grind (arith, common_steps)
 
 pub returns-clause-answer : goal.returns-clause-answer
 returns-clause-answer g c =

@@ -47,6 +47,11 @@ module _ {E : Type 0} where
   pub ensure_ok : {t : Bool} (e : E) → t ≡ true → ensure t e ≡ Ok tt
   ensure_ok e h = ap (λ t. ensure t e) h
 
+  -- A test that is accepted holds.
+  pub ensure_holds : (t : Bool) (e : E) (u : Unit {0}) → ensure t e ≡ Ok u → t ≡ true
+  ensure_holds true e u h = refl
+  ensure_holds false e u h = not_both h
+
   -- If a row that begins with a test is accepted, the test holds, and what goes on is accepted.
   pub ensure_then : {B : Type 0} (t : Bool) (e : E) (f : Unit {0} → Result B E) (b : B) → (ensure t e >>= f) ≡ Ok b → (t ≡ true) × (f tt ≡ Ok b)
   ensure_then true e f b h = (refl, h)

@@ -1,7 +1,7 @@
 -- Results in a row: a row is accepted exactly if each of its parts is.
-use Rattle.std.proofs.Common.{◌≡◌, ℕ, Bool, true, false, List, [], ◌∷◌, eqb, Some, None, Ok, Err, Option, Result, refl, ap, ◌∙◌, sym, arith}
-use Rattle.std.proofs.lemmas.Bool.{cond_both, eqb-true}
-use Rattle.std.proofs.lemmas.Option.{none-some, same_Some}
+use Rattle.std.proofs.Common.{◌≡◌, ℕ, Bool, true, false, List, [], ◌∷◌, Some, None, Ok, Err, Option, Result, refl, ap, ◌∙◌, arith}
+use Rattle.std.proofs.lemmas.Grind.{common_steps}
+use Rattle.std.proofs.lemmas.Option.{none-some}
 use Rattle.rules.specs.Outcomes.{◌>>=◌, ensure, from_some, refused_as, numbered}
 
 module _ {A E : Type 0} where
@@ -70,12 +70,4 @@ module _ {A E F : Type 0} (f : E → F) where
 -- What is found by its number has that number.
 pub has_number : {A : Type 0} (number : A → ℕ) (list : List A) (n : ℕ) (a : A) → numbered number list n ≡ Some a → number a ≡ n
 has_number number [] n a h = absurd (none-some a h)
-has_number number (b ∷ rest) n a h =
-    cond_both
-    (eqb (number b) n)
-    (Some b)
-    (numbered number rest n)
-    (λ o. o ≡ Some a → number a ≡ n)
-    (λ t k. ap number (sym (same_Some b a k)) ∙ eqb-true (number b) n t)
-    (λ _ k. has_number number rest n a k)
-    h
+has_number number (b ∷ rest) n a h = grind (arith, common_steps, has_number number rest n a)

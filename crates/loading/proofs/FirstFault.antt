@@ -16,10 +16,10 @@ use Rattle.rules.specs.declared.faults.LoadFault.{LoadFault}
 use Rattle.rules.specs.declared.faults.LoadFault.TheVariants.{BadLength, TooManyVariables, CutDeclaration, BadDeclaration}
 use Rattle.rules.specs.declared.faults.ReadingFault.TheVariants.{Cut}
 use Rattle.rules.specs.declared.program.Variable.{Variable}
-use Rattle.rules.proofs.Results.{goes_on, ok_then, ensure_ok, ensure_then, same_ok, same_err, refused_again}
+use Rattle.rules.proofs.Results.{goes_on, ok_then, ensure_ok, ensure_then, same_ok, same_err, refused_again, ensure_holds}
 use Rattle.loading.proofs.Again.{Since, block_first_met}
 use Rattle.loading.proofs.Alike.{Alike, alike_by_front, alike_first, alike_rest, alike_take, alike_drop, alike_all}
-use Rattle.loading.proofs.Refused.{no_ok, Only, only_ok, only_some, only_ensure, only_then, only_weaker, ensure_holds}
+use Rattle.loading.proofs.Refused.{no_ok, Only, only_ok, only_some, only_ensure, only_then, only_weaker}
 
 ---------------------------------------------------------------------- declarations
 

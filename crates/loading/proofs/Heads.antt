@@ -12,8 +12,9 @@ use Rattle.rules.specs.declared.faults.StatementFault.TheVariants.{Reading, Wron
 use Rattle.rules.specs.declared.program.Form.{Form}
 use Rattle.rules.specs.declared.program.Form.TheVariants.{Nothing, Set, Pause, If, Loop, Par, Abort}
 use Rattle.rules.specs.declared.program.Variable.{Variable}
+use Rattle.rules.proofs.Results.{ensure_holds}
 use Rattle.loading.proofs.Alike.{Alike, alike_first, alike_rest, alike_take, alike_drop, alike_all}
-use Rattle.loading.proofs.Refused.{Related, related_refused, related_weaker, related_then, same_then, ensure_holds}
+use Rattle.loading.proofs.Refused.{Related, related_refused, related_weaker, related_then, same_then}
 
 -- The same value was read of bytes from place s on, in at most `most` of them; those after it, which end at place e, are alike before place m.
 record ValueAlike {X : Type 0} (s most m e : ℕ) (q q' : X × List ℕ) : Type 0 where

@@ -102,8 +102,3 @@ module _ {A B E : Type 0} (S : B → B → Type 0) where
     from : (q : Result A E) → ((a : A) → q ≡ Ok a → Related S (g a) (g' a)) → Related S (q >>= g) (q >>= g')
     from (Ok a) l = l a refl
     from (Err f) l = record { both = refl }
-
--- A test that is accepted holds.
-pub ensure_holds : {E : Type 0} (b : Bool) (e : E) (u : Unit {0}) → ensure b e ≡ Ok u → b ≡ true
-ensure_holds true e u h = refl
-ensure_holds false e u h = not_both h

@@ -1,7 +1,7 @@
 -- Results in a row: a row is accepted exactly if each of its parts is.
-use Rattle.std.proofs.Common.{◌≡◌, ℕ, Bool, true, false, List, [], ◌∷◌, eqb, Some, None, Ok, Err, Option, Result, refl, ap, ◌∙◌, sym, arith}
-use Rattle.std.proofs.lemmas.Bool.{cond_both, eqb-true}
-use Rattle.std.proofs.lemmas.Option.{none-some, same_Some}
+use Rattle.std.proofs.Common.{◌≡◌, ℕ, Bool, true, false, List, [], ◌∷◌, Some, None, Ok, Err, Option, Result, refl, ap, ◌∙◌, arith}
+use Rattle.std.proofs.lemmas.Grind.{common_steps}
+use Rattle.std.proofs.lemmas.Option.{none-some}
 use Rattle.rules.specs.Outcomes.{◌>>=◌, ensure, from_some, refused_as, numbered}
 
 module _ {A E : Type 0} where
@@ -47,6 +47,11 @@ module _ {E : Type 0} where
   pub ensure_ok : {t : Bool} (e : E) → t ≡ true → ensure t e ≡ Ok tt
   ensure_ok e h = ap (λ t. ensure t e) h
 
+  -- A test that is accepted holds.
+  pub ensure_holds : (t : Bool) (e : E) (u : Unit {0}) → ensure t e ≡ Ok u → t ≡ true
+  ensure_holds true e u h = refl
+  ensure_holds false e u h = not_both h
+
   -- If a row that begins with a test is accepted, the test holds, and what goes on is accepted.
   pub ensure_then : {B : Type 0} (t : Bool) (e : E) (f : Unit {0} → Result B E) (b : B) → (ensure t e >>= f) ≡ Ok b → (t ≡ true) × (f tt ≡ Ok b)
   ensure_then true e f b h = (refl, h)
@@ -65,12 +70,4 @@ module _ {A E F : Type 0} (f : E → F) where
 -- What is found by its number has that number.
 pub has_number : {A : Type 0} (number : A → ℕ) (list : List A) (n : ℕ) (a : A) → numbered number list n ≡ Some a → number a ≡ n
 has_number number [] n a h = absurd (none-some a h)
-has_number number (b ∷ rest) n a h =
-    cond_both
-    (eqb (number b) n)
-    (Some b)
-    (numbered number rest n)
-    (λ o. o ≡ Some a → number a ≡ n)
-    (λ t k. ap number (sym (same_Some b a k)) ∙ eqb-true (number b) n t)
-    (λ _ k. has_number number rest n a k)
-    h
+has_number number (b ∷ rest) n a h = grind (arith, common_steps, has_number number rest n a)

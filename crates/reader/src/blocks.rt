@@ -53,7 +53,7 @@ impl Checker<'_> {
         ensures scope { scope.new ≡ scope.old }
     {
         let mut extent = Extent::default();
-        while let Some(command) = block.byte() {
+        while let Some(command) = block.command() {
             let one = self.read_statement(command, &mut block, scope)?;
             extent = extent.joined(one);
         }

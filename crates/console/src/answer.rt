@@ -20,6 +20,7 @@ pub enum Answer {
     Summary(Tally),
 }
 
+// By hand, as the next one: a derived `Display` has no contract.
 impl fmt::Display for Rate {
     ghost output = { rate_text };
 

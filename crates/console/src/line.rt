@@ -55,7 +55,7 @@ fn limits_in(low: &str, high: &str) -> Result<Limits, Problem>
     Limits::new(low, high).ok_or(Problem::LowOverHigh)
 }
 
-// The numbers of all words.
+// The numbers of words, of which the first is word 5 of its line. A loop and no chain, since the contract says which problem is told.
 fn numbers_in(heap: Global, words: &[&str]) -> Result<Vec<i32>, Problem>
     requires { length words.now ≤ 32 }
     ensures { Gives vec_items (numbers_from 5 (texts words.now)) result }
@@ -122,8 +122,8 @@ fn command_line(heap: Global, command: &str, words: &[&str]) -> Result<Line, Pro
     ensures { Gives said (command_line command.now (texts words.now)) result }
 {
     match command {
-        "arithmetic" => Ok(Line::Arithmetic(choice_in(words)?)),
-        "evaluate" => Ok(Line::Evaluate(evaluation_in(heap, words)?)),
+        "arithmetic" => choice_in(words).map(Line::Arithmetic),
+        "evaluate" => evaluation_in(heap, words).map(Line::Evaluate),
         "summary" => only_word(Line::Summary, words),
         _ => Err(Problem::NoSuchCommand),
     }

@@ -15,6 +15,7 @@ pub struct Tally {
     pub tick_length: u64,
 }
 
+// By hand: a derived `Display` has no contract.
 impl fmt::Display for Tally {
     ghost output = { λ t. Some (tally_text t) };
 

@@ -108,6 +108,7 @@ impl<'a, 'v, 'm, A: Arithmetic, S: Scope> Evaluation<'a, 'v, 'm, A, S> {
     }
 
     // The first command of the bytes left; answers the bytes after it.
+    // The reader dispatches on the same bytes, for depth and scope: one function for both would part the guards from their cases.
     fn perform<'c>(&mut self, code: &'c [u8], place: usize) -> Result<&'c [u8], Refusal>
         ensures answer { leaving_with (stacked self.new.stack) result ≡ taken (A.Arithmetic.meaning self.old.arithmetic.now) (value_of self.old.variables.now (S.Scope.places self.old.scope.now)) place (next_command code.now) (stacked self.old.stack) }
         ensures shorter { IfOk result (λ rest. length rest.now < length code.now) }

@@ -53,7 +53,7 @@ impl Checker<'_> {
         ensures scope { scope.new ≡ scope.old }
     {
         let mut extent = Extent::default();
-        while let Some(command) = block.command() {
+        while let Some(command) = block.byte() {
             let one = self.read_statement(command, &mut block, scope)?;
             extent = extent.joined(one);
         }

@@ -6,6 +6,7 @@ ghost use Rattle.reader.specs.Counting.{counted, Few};
 use crate::counts::Counts;
 use rules::program::Variable;
 
+// The scope is not among its fields, since the guard lends it for a block.
 /// Checks the statements of a program as it reads them: knows the declared variables, and what was counted so far.
 #[derive(Drop)]
 pub(crate) struct Checker<'a> {

@@ -13,6 +13,7 @@ use rules::scopes::may_read;
 
 impl Checker<'_> {
     // The first command of the bytes left, with `depth` values stacked: how many are then, and what follows it.
+    // The evaluator dispatches on the same bytes, for values: one function for both would part the guards from their cases.
     fn step<'a>(
         &self,
         left: &'a [u8],

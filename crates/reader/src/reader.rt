@@ -47,26 +47,16 @@ impl<'a> Reader<'a> {
         self.place.saturating_sub(1)
     }
 
-    /// The command byte of the next statement, which is passed; the bytes after it go on to the statement's parts. None at the end of the block.
-    pub(crate) fn command(&mut self) -> Option<u8>
-        ensures answer { ByteTaken (left_of self.old) (left_of self.new) result }
-        ensures end { end_of self.new ≡ end_of self.old }
-    {
-        let [command, rest @ ..] = self.left() else {
-            return None;
-        };
-        self.place = self.end - rest.len();
-        Some(*command)
-    }
-
-    /// The next byte, which is passed; none at the end of the block.
+    /// The next byte, a statement's command or operand, which is passed; none at the end of the block.
     pub(crate) fn byte(&mut self) -> Option<u8>
         ensures answer { ByteTaken (left_of self.old) (left_of self.new) result }
         ensures end { end_of self.new ≡ end_of self.old }
     {
-        let byte = *self.left().first()?;
-        self.place += 1;
-        Some(byte)
+        let [byte, rest @ ..] = self.left() else {
+            return None;
+        };
+        self.place = self.end - rest.len();
+        Some(*byte)
     }
 
     /// A reader of the next so many bytes, which are passed; none where the block has fewer.

@@ -1,4 +1,4 @@
-//! The language of programs and the rules of its execution: definitions, and the types that the code shares with them.
+//! The language of programs and the rules of its execution: definitions, the types that the code shares with them, and which variables a thread reads and sets.
 #![tactic(auto)]
 
 pub mod faults;

@@ -16,7 +16,7 @@ pub struct Arm {
     pub first: Option<u16>,
 }
 
-/// What a statement does, with its operands and the first statements of its blocks.
+/// What a statement does, with its operands and the first statements of its blocks. An abort says first whether it is weak, and then whether it is immediate.
 #[derive(Clone, Copy, PartialEq, Eq, Debug)]
 pub enum Task {
     Nothing,

@@ -14,12 +14,12 @@ read_statements-loop-command-init t c = search (rules, begun_at)
 pub read_statements-loop-command-preserved : goal.read_statements-loop-command-preserved
 read_statements-loop-command-preserved t c =
     let f = c.in_ok-one.ensures in
-    one_more_at c.args.self.now c.args.scope.now c.args.block _ _ _ _ c.loop-command.invariant _ c.command.new.self c.in-Some.ensures.answer c.in-Some.ensures.end c.read_statement.new.self c.read_statement.new.scope c.read_statement.new.block c.in_ok-one.one _ f.answer f.shorter f.end f.variables f.scope c.joined-extent.ensures
+    one_more_at c.args.self.now c.args.scope.now c.args.block _ _ _ _ c.loop-command.invariant _ c.byte.new.self c.in-Some.ensures.answer c.in-Some.ensures.end c.read_statement.new.self c.read_statement.new.scope c.read_statement.new.block c.in_ok-one.one _ f.answer f.shorter f.end f.variables f.scope c.joined-extent.ensures
 
 pub read_statements-returns-in_err-one-clause-answer : goal.read_statements-returns-in_err-one-clause-answer
 read_statements-returns-in_err-one-clause-answer t c =
     err_mapped (with_counts (counted c.read_statement.new.self.counts)) c.from_residual.result c.in_err-one.field-0.0 c.from_residual.ensures.1
-    ∙ stopped_at c.args.self.now c.args.scope.now c.args.block _ _ _ _ c.loop-command.invariant _ c.command.new.self c.in-Some.ensures.answer c.in-Some.ensures.end _ c.in_err-one.ensures.answer
+    ∙ stopped_at c.args.self.now c.args.scope.now c.args.block _ _ _ _ c.loop-command.invariant _ c.byte.new.self c.in-Some.ensures.answer c.in-Some.ensures.end _ c.in_err-one.ensures.answer
 
 pub read_statement-returns-in_err-head-clause-answer : goal.read_statement-returns-in_err-head-clause-answer
 read_statement-returns-in_err-head-clause-answer t c =

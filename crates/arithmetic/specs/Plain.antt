@@ -34,6 +34,7 @@ plain_two Equal a b = truth (same a b)
 abbrev pub plain_not : ℤ → ℤ
 plain_not a = truth (same a (pos 0))
 
+-- What an operation gives of the numbers that it holds.
 abbrev pub plain_operated : Operation ℤ → ℤ
 plain_operated (two o a b) = plain_two o a b
 plain_operated (inverse a) = plain_not a

@@ -29,9 +29,11 @@ pub data Said : Type 0 where
   evaluate : Asked → Said
   summary : Said
 
+-- An evaluation as it is asked for: limits, bytes and readings.
 abbrev pub evaluation_said : Evaluation → Asked
 evaluation_said e = record { low = e.limits.low; high = e.limits.high; code = vec_items e.code; readings = vec_items e.readings }
 
+-- What a line of the code asks for.
 abbrev pub said : Line → Said
 said (Arithmetic c) = arithmetic c
 said (Evaluate e) = evaluate (evaluation_said e)
@@ -41,6 +43,7 @@ said Summary = summary
 abbrev pub asked_for : Option Line → Option Said
 asked_for = option_map said
 
+-- The two numbers of limits.
 abbrev pub limits_shown : Limits → ℤ × ℤ
 limits_shown l = (l.low, l.high)
 
@@ -56,6 +59,7 @@ limits_in low high = and_then (number_at 2 low) (λ l. and_then (number_at 3 hig
 abbrev pub readings_in : List (List ℕ) → Result (List ℤ) Problem
 readings_in ws = if nat_le (length ws) most_variables then numbers_from 5 ws else Err TooManyReadings
 
+-- Limits, bytes and readings are what an evaluation asks for.
 abbrev pub asked : ℤ × ℤ → List ℕ → List ℤ → Asked
 asked l bs ns = record { low = l.0; high = l.1; code = bs; readings = ns }
 

@@ -18,6 +18,7 @@ use Rattle.console.specs.declared.problem.Problem.TheVariants.{OutOfMemory}
 use Rattle.console.specs.declared.session.Session.{Session}
 use Rattle.console.specs.declared.tally.Tally.{Tally}
 
+-- Nothing was done: every number is 0.
 abbrev pub nothing_done : Tally
 nothing_done = record { loads = 0; ticks = 0; steps = 0; refusals = 0; longest_tick = 0; tick_length = 0 }
 

@@ -73,6 +73,7 @@ abbrev pub variable_in : List ℕ → Option (Command × List ℕ)
 variable_in [] = None
 variable_in (v ∷ bs) = Some (variable v, bs)
 
+-- A command, where there is one, with the bytes that follow it.
 abbrev pub with_rest : Option Command → List ℕ → Option (Command × List ℕ)
 with_rest None bs = None
 with_rest (Some c) bs = Some (c, bs)

@@ -83,6 +83,7 @@ module _ {V : Type 0} (M : Meaning V) (look : ℕ → Option V) where
 abbrev pub variable_places : ℕ
 variable_places = 1024
 
+-- All of its places.
 abbrev pub all_places : ℕ
 all_places = 1040
 

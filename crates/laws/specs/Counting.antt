@@ -10,5 +10,6 @@ abbrev pub CountsStayShortIn : {V : Type 0} → Machine V → Type 0
 CountsStayShortIn (empty n) = Unit {0}
 CountsStayShortIn (running n bs p σ b c) = c ≤ tick_length p
 
+-- So it is after any calls on a new machine.
 abbrev pub CountsStayShort : Type 0 → Type 0
 CountsStayShort V = (M : Meaning V) (places : ℕ) (cs : List Call) → CountsStayShortIn (after_calls M places cs).0

@@ -29,6 +29,7 @@ module _ {V : Type 0} where
   abbrev pub NoJoinDue : Thread V → Type 0
   NoJoinDue h = WhereItWaits h.own.state (NoneDueBelow h.below)
 
+  -- In a machine no join is due while a tick is open.
   abbrev pub NoJoinDueIn : Machine V → Type 0
   NoJoinDueIn (empty n) = Unit {0}
   NoJoinDueIn (running n bs p σ b c) = b ≡ true → NoJoinDue σ.main

@@ -18,5 +18,6 @@ abbrev pub MachineWithin : {V : Type 0} → Meaning V → Machine V → Type 0
 MachineWithin M (empty n) = Unit {0}
 MachineWithin M (running n bs p σ b c) = WithinLimits M p.variables σ.stores
 
+-- So it is after any calls on a new machine.
 abbrev pub RatesStayWithinLimits : {V : Type 0} → Meaning V → Type 0
 RatesStayWithinLimits M = (places : ℕ) (cs : List Call) → MachineWithin M (after_calls M places cs).0

@@ -42,6 +42,7 @@ inputs [] = 0
 inputs (d ∷ ds) = elim (is_input d.kind) [ true ↦ suc (inputs ds) | false ↦ inputs ds ]
 
 module _ {V : Type 0} (M : Meaning V) where
+  -- How many places the machine's value memory has.
   abbrev pub places_of : Machine V → ℕ
   places_of (empty n) = n
   places_of (running n bs p σ b c) = n
@@ -51,6 +52,7 @@ module _ {V : Type 0} (M : Meaning V) where
   load_read m n bs (Ok p) = (accepted, running n bs p (loaded M p.variables (text_of p)) false 0)
   load_read m n bs (Err f) = (refused (Refusal.Program f), m)
 
+  -- Loading: 12 a tick is open, then the faults of the bytes.
   abbrev pub load_call : List ℕ → Machine V → Answer × Machine V
   load_call bs (empty n) = load_read (empty n) n bs (read bs)
   load_call bs (running n old p σ true c) = (refused Refusal.TickOpen, running n old p σ true c)
@@ -66,6 +68,7 @@ module _ {V : Type 0} (M : Meaning V) where
     ]
   ]
 
+  -- Opening: 13 nothing loaded, then 12 a tick is open, then what stands above.
   abbrev pub open_call : List ℤ → Machine V → Answer × Machine V
   open_call rs (empty n) = (refused Refusal.NothingLoaded, empty n)
   open_call rs (running n bs p σ true c) = (refused Refusal.TickOpen, running n bs p σ true c)
@@ -75,6 +78,7 @@ module _ {V : Type 0} (M : Meaning V) where
   abbrev pub stepped : Program → ℕ → Config V → Config V
   stepped p t σ = record { stores = σ.stores; main = step M p.variables σ.stores t σ.main }
 
+  -- Stepping: 16 no tick open, then 17 thread not ready; an accepted step is counted.
   abbrev pub step_call : ℕ → Machine V → Answer × Machine V
   step_call t (empty n) = (refused Refusal.NoTick, empty n)
   step_call t (running n bs p σ false c) = (refused Refusal.NoTick, running n bs p σ false c)
@@ -103,6 +107,7 @@ module _ {V : Type 0} (M : Meaning V) where
   abbrev pub rates_of : Program → Config V → List Rate
   rates_of p σ = rates M p.variables 0 σ.stores
 
+  -- Reporting: 13 nothing loaded, then 19 too little space.
   abbrev pub report_call : List ℕ → Machine V → Answer × Machine V
   report_call space (empty n) = (refused Refusal.NothingLoaded, empty n)
   report_call space (running n bs p σ b c) = elim (nat_le (report_size (rates_of p σ)) (length space)) [
@@ -110,6 +115,7 @@ module _ {V : Type 0} (M : Meaning V) where
     | false ↦ (refused Refusal.Space, running n bs p σ b c)
   ]
 
+  -- Each call is performed by its own rule.
   abbrev pub perform_right : Call → Machine V → Answer × Machine V
   perform_right (load bs) m = load_call bs m
   perform_right (open_tick rs) m = open_call rs m

@@ -6,11 +6,13 @@ use Rattle.rules.specs.Threads.{Own, Arms, no_arms, both, Thread, Config}
 use Rattle.rules.specs.Values.{declared, zero_value}
 use Rattle.rules.specs.declared.program.Variable.{Variable}
 
+-- The first where it is there, else the second.
 abbrev pub or_else : {A : Type 0} → Option A → Option A → Option A
 or_else None o = o
 or_else (Some a) o = Some a
 
 module _ {V : Type 0} where
+  -- Thread number t among arms and the threads below them, if it is there.
   abbrev pub thread_below : ℕ → Arms V → Option (Own V)
   thread_below t no_arms = None
   thread_below t (both a b l L r R rest) = elim (t == a) [
@@ -23,6 +25,7 @@ module _ {V : Type 0} where
   thread_at t h = elim (t == 0) [ true ↦ Some h.own | false ↦ thread_below t h.below ]
 
 module _ {V : Type 0} (M : Meaning V) (ds : List Variable) where
+  -- What a thread holds of variable v; the constant 0 without such a thread.
   abbrev pub value_of : Option (Own V) → ℕ → V
   value_of None v = zero_value M
   value_of (Some o) v = slice_index_or o.memo.values v (zero_value M)

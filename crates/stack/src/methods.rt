@@ -23,7 +23,8 @@ impl<'a, T: Copy> Stack<'a, T> {
     pub fn depth(&self) -> usize
         ensures { result ≡ length (stacked self.now) }
     {
-        self.depth
+        let Stack { depth, .. } = self;
+        *depth
     }
 
     /// One value more, or a refusal that changes nothing.

@@ -38,24 +38,27 @@ const BINARY: [(Operator, i32, i32, i32); 24] = [
 ];
 
 // operator, first copy, second copy, what it gives, and the mask that masks 1 and 2 give
-const COMBINED: [(Combining, i32, i32, i32, u32); 7] = [
+const COMBINED: [(Combining, i32, i32, i32, u32); 9] = [
     (Combining::Sum, 30, 80, 110, 3),
     (Combining::Sum, HIGHEST, HIGHEST, HIGHEST, 3),
     (Combining::Sum, LOWEST, -1, LOWEST, 3),
     (Combining::Least, 30, 0, 0, 3),
     (Combining::Greatest, 30, 0, 30, 3),
+    (Combining::Least, LOWEST, HIGHEST, LOWEST, 3),
+    (Combining::Greatest, LOWEST, HIGHEST, HIGHEST, 3),
     (Combining::Left, 30, 0, 30, 1),
     (Combining::Left, LOWEST, HIGHEST, LOWEST, 1),
 ];
 
-// low, high, number, the nearest within
-const LIMITED: [(i32, i32, i32, i32); 6] = [
+// low, high, number, the nearest within; low where low is over high
+const LIMITED: [(i32, i32, i32, i32); 7] = [
     (0, 100, 50, 50),
     (0, 100, 101, 100),
     (0, 100, -1, 0),
     (5, 5, HIGHEST, 5),
     (LOWEST, HIGHEST, HIGHEST, HIGHEST),
     (LOWEST, LOWEST, HIGHEST, LOWEST),
+    (100, 0, 50, 100),
 ];
 
 #[test]
@@ -88,6 +91,7 @@ fn not_of_one_value(rt: HostRuntime) {
     assert!(rt; Plain {}.inverted(0) == 1);
     assert!(rt; Plain {}.inverted(-1) == 0);
     assert!(rt; Plain {}.inverted(LOWEST) == 0);
+    assert!(rt; Plain {}.inverted(HIGHEST) == 0);
     assert_eq!(rt;
         Tracing {}.inverted(Traced { number: 0, mask: 6 }),
         Traced { number: 1, mask: 6 }

@@ -1,4 +1,5 @@
 //! What the console answers to a line.
+ghost use Rattle.std.specs.Prelude.{Some};
 ghost use Rattle.console.specs.Texts.{rate_text, answer_text};
 
 use crate::tally::Tally;
@@ -22,7 +23,7 @@ pub enum Answer {
 
 // By hand, as the next one: a derived `Display` has no contract.
 impl fmt::Display for Rate {
-    ghost output = { rate_text };
+    ghost output = { λ r. Some (rate_text r) };
 
     fn fmt<W: fmt::Write>(&self, f: &mut fmt::Formatter<W>) -> fmt::Result {
         match *self {
@@ -33,7 +34,7 @@ impl fmt::Display for Rate {
 }
 
 impl fmt::Display for Answer {
-    ghost output = { answer_text };
+    ghost output = { λ a. Some (answer_text a) };
 
     fn fmt<W: fmt::Write>(&self, f: &mut fmt::Formatter<W>) -> fmt::Result {
         match *self {

@@ -2,6 +2,42 @@
 use crate::session::Session;
 use std::test::Fail;
 
+// line, what is told of it
+const BAD: [(&str, &str); 14] = [
+    ("evaluated", "no such command"),
+    ("Summary", "no such command"),
+    ("summary now", "a word too many"),
+    ("arithmetic", "a word is missing"),
+    ("arithmetic plain tracing", "a word too many"),
+    (
+        "arithmetic float",
+        "no such arithmetic: it is plain or tracing",
+    ),
+    ("evaluate 0 1", "a word is missing"),
+    ("evaluate zero 1 4100", "word 2 is no signed 32-bit number"),
+    (
+        "evaluate 0 2147483648 4100",
+        "word 3 is no signed 32-bit number",
+    ),
+    ("evaluate 1 0 4100", "the low limit is over the high limit"),
+    (
+        "evaluate 0 1 410",
+        "word 4 is not pairs of hexadecimal digits",
+    ),
+    (
+        "evaluate 0 1 4g00",
+        "word 4 is not pairs of hexadecimal digits",
+    ),
+    (
+        "evaluate 0 1 4100 7 1.5",
+        "word 6 is no signed 32-bit number",
+    ),
+    (
+        "evaluate 0 1 4100 0 1 2 3 4 5 6 7 8 9 0 1 2 3 4 5 6 7 8 9 0 1 2 3 4 5 6 7 8 9 0 1 2",
+        "more than 32 readings",
+    ),
+];
+
 #[test]
 fn good_lines_are_answered(rt: HostRuntime) -> Result<(), Fail> {
     let heap = rt.alloc();
@@ -43,40 +79,7 @@ fn good_lines_are_answered(rt: HostRuntime) -> Result<(), Fail> {
 fn bad_lines_are_told(rt: HostRuntime) -> Result<(), Fail> {
     let heap = rt.alloc();
     let mut session = Session::new();
-    for (line, told) in [
-        ("evaluated", "no such command"),
-        ("Summary", "no such command"),
-        ("summary now", "a word too many"),
-        ("arithmetic", "a word is missing"),
-        ("arithmetic plain tracing", "a word too many"),
-        (
-            "arithmetic float",
-            "no such arithmetic: it is plain or tracing",
-        ),
-        ("evaluate 0 1", "a word is missing"),
-        ("evaluate zero 1 4100", "word 2 is no signed 32-bit number"),
-        (
-            "evaluate 0 2147483648 4100",
-            "word 3 is no signed 32-bit number",
-        ),
-        ("evaluate 1 0 4100", "the low limit is over the high limit"),
-        (
-            "evaluate 0 1 410",
-            "word 4 is not pairs of hexadecimal digits",
-        ),
-        (
-            "evaluate 0 1 4g00",
-            "word 4 is not pairs of hexadecimal digits",
-        ),
-        (
-            "evaluate 0 1 4100 7 1.5",
-            "word 6 is no signed 32-bit number",
-        ),
-        (
-            "evaluate 0 1 4100 0 1 2 3 4 5 6 7 8 9 0 1 2 3 4 5 6 7 8 9 0 1 2 3 4 5 6 7 8 9 0 1 2",
-            "more than 32 readings",
-        ),
-    ] {
+    for (line, told) in BAD {
         match session.take_line(heap, line) {
             Ok(_) => return Err(Fail::new(line)),
             Err(problem) => assert!(rt; problem.to_string(heap)?.as_str() == told, "{}", line),

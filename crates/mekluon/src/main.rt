@@ -9,6 +9,9 @@ use std::io::{self, BufRead, BufReader, Read};
 use std::process::ExitCode;
 use thiserror::Error;
 
+#[cfg(test)]
+mod tests;
+
 /// Why a job ends before its last line.
 #[derive(Drop, Debug, Error)]
 enum Stop {

@@ -68,7 +68,7 @@ module _ {V : Type 0} (M : Meaning V) where
     ]
   ]
 
-  -- Opening: 13 nothing loaded, then 12 a tick is open, then what stands above.
+  -- Opening: 12 a tick is open, 13 nothing loaded, then what stands above.
   abbrev pub open_call : List ℤ → Machine V → Answer × Machine V
   open_call rs (empty n) = (refused Refusal.NothingLoaded, empty n)
   open_call rs (running n bs p σ true c) = (refused Refusal.TickOpen, running n bs p σ true c)

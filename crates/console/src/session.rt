@@ -1,6 +1,7 @@
 //! A job under way: the arithmetic that it has chosen, and what it has done.
-ghost use Rattle.std.specs.Prelude.{◌≡◌};
-ghost use Rattle.console.specs.Lines.{said, evaluation_said};
+ghost use Rattle.std.specs.Prelude.{◌≡◌, option_and_then};
+ghost use Rattle.std.specs.Option.{option_map_or};
+ghost use Rattle.console.specs.Lines.{asked_for, evaluation_said};
 ghost use Rattle.console.specs.Sessions.{fresh, evaluated_by, counted, performed, answered, Took};
 
 use crate::answer::{Answer, Rate};
@@ -51,18 +52,19 @@ impl Session {
         rate
     }
 
-    /// Performs a line and answers it, if it has an answer.
-    pub fn perform(&mut self, line: &Line) -> Option<Answer>
-        ensures answer { result ≡ answered self.old (said line.now) }
-        ensures state { self.new ≡ performed self.old (said line.now) }
+    /// Performs a line and answers it, if it has an answer; a line that asks for nothing changes nothing.
+    pub fn perform(&mut self, line: &Option<Line>) -> Option<Answer>
+        ensures answer { result ≡ option_and_then (answered self.old) (asked_for line.now) }
+        ensures state { self.new ≡ option_map_or (performed self.old) (asked_for line.now) self.old }
     {
         match line {
-            Line::Arithmetic(choice) => {
+            None => None,
+            Some(Line::Arithmetic(choice)) => {
                 self.choice = *choice;
                 None
             }
-            Line::Evaluate(evaluation) => Some(Answer::Evaluated(self.evaluate(evaluation))),
-            Line::Summary => Some(Answer::Summary(self.tally)),
+            Some(Line::Evaluate(evaluation)) => Some(Answer::Evaluated(self.evaluate(evaluation))),
+            Some(Line::Summary) => Some(Answer::Summary(self.tally)),
         }
     }
 
@@ -70,9 +72,7 @@ impl Session {
     pub fn take_line(&mut self, heap: Global, text: &str) -> Result<Option<Answer>, Problem>
         ensures { Took self.old text.now result self.new }
     {
-        let Some(line) = parse(heap, text)? else {
-            return Ok(None);
-        };
+        let line = parse(heap, text)?;
         Ok(self.perform(&line))
     }
 }

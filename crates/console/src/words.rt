@@ -12,7 +12,12 @@ use std::alloc::{AllocError, Global};
 pub fn words_of(heap: Global, text: &str) -> Result<Vec<&str>, AllocError>
     ensures { IfOk result (λ v. Words text.now (texts v.items)) }
 {
-    text.split_whitespace().collect(heap)
+    // A loop and no `collect`, so that the contract is tried on each word that is pushed: the check knows what a chain collects only of the chain that its proof names.
+    let mut words = Vec::new(heap);
+    for word in text.split_whitespace() {
+        words.push(word)?;
+    }
+    Ok(words)
 }
 
 /// What a hexadecimal digit stands for, in either case.

@@ -18,14 +18,14 @@ pub no_way' : {P : Type 0} → true ≡ false → P
 no_way' e = absurd (true≢false e)
 
 -- The two bytes of a length hold that length.
-length_back : (n : ℕ) → n % 256 + n / 256 * 256 ≡ n
+pub length_back : (n : ℕ) → n % 256 + n / 256 * 256 ≡ n
 length_back n = omega arith
 
 -- Two bytes are the low and the high byte of the length that they hold.
-length_low : (a b : ℕ) → a < 256 → (a + b * 256) % 256 ≡ a
+pub length_low : (a b : ℕ) → a < 256 → (a + b * 256) % 256 ≡ a
 length_low a b h = omega arith
 
-length_high : (a b : ℕ) → a < 256 → (a + b * 256) / 256 ≡ b
+pub length_high : (a b : ℕ) → a < 256 → (a + b * 256) / 256 ≡ b
 length_high a b h = omega arith
 
 -- A byte, an expression's bytes and the length of a block, where the form has them.

@@ -42,7 +42,7 @@ module _ (ds : List Variable) (n t e : ℕ) where
     pub within : length left ≤ length whole
     pub same : whole_block whole a₀ ≡ mapped (and_then x a) (read_statements ds n (read_block ds n) t fuel a e left)
 
-  begun : (whole : List ℕ) (a : Counts) (x : Extent) → x ≡ record { length = 0; pauses = false } → ReadTo whole a whole x a
+  pub begun : (whole : List ℕ) (a : Counts) (x : Extent) → x ≡ record { length = 0; pauses = false } → ReadTo whole a whole x a
   begun whole a x none = record {
     fuel = length whole;
     enough = omega arith;
@@ -76,7 +76,7 @@ module _ (ds : List Variable) (n t e : ℕ) where
     go (suc f) le same = sym (same ∙ ap (λ r. mapped (and_then x a) (r >>= (λ s. read_statements ds n (read_block ds n) t f (after_statement s.0 a) e s.1 >>= (λ B. Ok (s.0 then B))))) (mapped_err (sum_statement a) _ g is))
 
 -- Extents that were joined fit 32 bits.
-joined_fits : (x y z : Extent) → z ≡ joined x y → z.length < 2 ^ 32
+pub joined_fits : (x y z : Extent) → z ≡ joined x y → z.length < 2 ^ 32
 joined_fits x y z e = let h = ap (λ (q : Extent). q.length) e in omega arith
 
 -- Checker, scope and reader as they are with part of a block read, of the extent x; the first three are those before the block.

@@ -1,5 +1,5 @@
 //! The parts of a statement's bytes: its byte, its expression, its blocks.
-ghost use Rattle.std.specs.Prelude.{◌≡◌, ℕ, IfSome};
+ghost use Rattle.std.specs.Prelude.{◌≡◌, ℕ, IfSome, IfNone};
 ghost use Rattle.std.specs.Option.{ok_or};
 ghost use Rattle.evaluator.specs.Outcomes.{mapped};
 ghost use Rattle.rules.specs.Reading.{parts_in};
@@ -22,27 +22,30 @@ pub struct Parts<'a> {
 }
 
 impl<'a> Reader<'a> {
-    /// The parts of a statement of this form, whose command was just taken; none where the block around it does not have their bytes.
+    /// The parts of a statement of this form, whose command was just taken; none, and nothing taken, where the block around it does not have their bytes.
     pub fn take_parts(&mut self, form: Form) -> Option<Parts<'a>>
         ensures answer { (p : ℕ) → mapped (pieces (left_of self.new)) (ok_or result (Cut p)) ≡ parts_in p form (left_of self.old) }
         ensures in_turn { IfSome result (λ parts. InTurn (end_of self.old) (left_of self.new) parts.first parts.second) }
+        ensures refused { IfNone result (self.new ≡ self.old) }
         ensures end { end_of self.new ≡ end_of self.old }
     {
-        let byte = if has_byte(form) { self.byte()? } else { 0 };
+        let mut rest = *self;
+        let byte = if has_byte(form) { rest.byte()? } else { 0 };
         let long = if has_expression(form) {
-            self.byte()?
+            rest.byte()?
         } else {
             0
         };
-        let code = self.part(long.into())?.left();
-        let first_length = if has_block(form) { self.length()? } else { 0 };
+        let code = rest.part(long.into())?.left();
+        let first_length = if has_block(form) { rest.length()? } else { 0 };
         let second_length = if has_second_block(form) {
-            self.length()?
+            rest.length()?
         } else {
             0
         };
-        let first = self.part(first_length)?;
-        let second = self.part(second_length)?;
+        let first = rest.part(first_length)?;
+        let second = rest.part(second_length)?;
+        *self = rest;
         Some(Parts {
             byte,
             code,

@@ -1,5 +1,5 @@
 //! A job under way: the arithmetic that it has chosen, and what it has done.
-ghost use Rattle.std.specs.Prelude.{◌≡◌, option_and_then};
+ghost use Rattle.std.specs.Prelude.{◌≡◌, option_and_then, option_copied};
 ghost use Rattle.std.specs.Option.{option_map_or};
 ghost use Rattle.console.specs.Lines.{asked_for, evaluation_said};
 ghost use Rattle.console.specs.Sessions.{fresh, evaluated_by, counted, performed, answered, Took};
@@ -53,9 +53,9 @@ impl Session {
     }
 
     /// Performs a line and answers it, if it has an answer; a line that asks for nothing changes nothing.
-    pub fn perform(&mut self, line: &Option<Line>) -> Option<Answer>
-        ensures answer { result ≡ option_and_then (answered self.old) (asked_for line.now) }
-        ensures state { self.new ≡ option_map_or (performed self.old) (asked_for line.now) self.old }
+    pub fn perform(&mut self, line: Option<&Line>) -> Option<Answer>
+        ensures answer { result ≡ option_and_then (answered self.old) (asked_for (option_copied line.entry)) }
+        ensures state { self.new ≡ option_map_or (performed self.old) (asked_for (option_copied line.entry)) self.old }
     {
         match line {
             None => None,
@@ -73,6 +73,6 @@ impl Session {
         ensures { Took self.old text.now result self.new }
     {
         let line = parse(heap, text)?;
-        Ok(self.perform(&line))
+        Ok(self.perform(line.as_ref()))
     }
 }

@@ -3,6 +3,7 @@
 
 ghost use Rattle.std.specs.Prelude.{◌≤◌, length};
 
+pub mod cutting;
 pub mod methods;
 #[cfg(test)]
 mod tests;

@@ -4,7 +4,7 @@ use Rattle.console.specs.Splitting.{texts}
 use Rattle.console.specs.declared.problem.Problem.TheVariants.{ExtraWord}
 use Rattle.console.proofs.line.choice_in.Goals as goal
 
-two_names : (ws : List (Bor (List ℕ))) → 2 ≤ length ws → choice_in (texts ws) ≡ Err ExtraWord
+pub two_names : (ws : List (Bor (List ℕ))) → 2 ≤ length ws → choice_in (texts ws) ≡ Err ExtraWord
 two_names [] h = absurd (omega arith)
 two_names (w ∷ []) h = absurd (omega arith)
 two_names (w ∷ v ∷ ws) h = refl

@@ -5,7 +5,7 @@ use Rattle.console.specs.Splitting.{texts}
 use Rattle.console.specs.declared.problem.Problem.TheVariants.{ExtraWord}
 use Rattle.console.proofs.line.only_word.Goals as goal
 
-not_alone : (s : Said) (ws : List (Bor (List ℕ))) → (length ws ≡ 0 → ⊥) → only_word s (texts ws) ≡ Err ExtraWord
+pub not_alone : (s : Said) (ws : List (Bor (List ℕ))) → (length ws ≡ 0 → ⊥) → only_word s (texts ws) ≡ Err ExtraWord
 not_alone s [] h = absurd (h refl)
 not_alone s (w ∷ ws) h = refl
 

@@ -25,7 +25,9 @@ pub fn digit_value(character: u8) -> Option<u8>
     ensures value { result ≡ digit_value character }
     ensures bound { IfSome result (λ digit. digit < 16) }
 {
-    char::from(character).to_digit(16).map(|digit| digit as u8)
+    // A capital comes sooner: `to_digit` looks for a small letter last.
+    let upper = character.to_ascii_uppercase();
+    char::from(upper).to_digit(16).map(|digit| digit as u8)
 }
 
 /// The byte of two hexadecimal digits.

@@ -28,7 +28,7 @@ impl Checker<'_> {
     {
         let outer = scope.thread;
         let nesting = scope.nesting;
-        if nesting == 0 {
+        if nesting == 0 || block.is_empty() {
             return Ok(Extent::default());
         }
         scope.thread = thread;

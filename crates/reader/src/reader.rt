@@ -1,5 +1,5 @@
 //! A reader of a program's bytes, which does not pass the end of a block.
-ghost use Rattle.std.specs.Prelude.{◌≡◌, ◌<◌, ◌^◌, ◌≤◌, length, IfSome};
+ghost use Rattle.std.specs.Prelude.{◌≡◌, ◌==◌, ◌<◌, ◌^◌, ◌≤◌, length, IfSome};
 ghost use Rattle.evaluator.specs.Outcomes.{mapped};
 
 use rules::faults::LoadFault;
@@ -38,6 +38,13 @@ impl<'a> Reader<'a> {
         ensures { result.now ≡ left_of self.now }
     {
         &self.program[self.place..self.end]
+    }
+
+    /// Whether the place is the block's end.
+    pub(crate) fn is_empty(&self) -> bool
+        ensures { result ≡ (length (left_of self.now) == 0) }
+    {
+        self.place == self.end
     }
 
     /// The place of the statement whose command was just taken.

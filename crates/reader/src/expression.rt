@@ -25,16 +25,19 @@ impl Checker<'_> {
         ensures answer { mapped number_rest result ≡ one_command self.now.variables.now thread place depth (next_command left.now) }
         ensures shorter { IfOk result (λ p. (length p.1.now < length left.now) × (p.0 ≤ 16)) }
     {
-        match left {
-            [0x40, _, _, _, _, rest @ ..] if depth < DEEPEST => Ok((depth + 1, rest)),
-            [0x41, variable, rest @ ..] if depth < DEEPEST => {
+        let [command, rest @ ..] = left else {
+            return Err(StatementFault::BadExpression(place));
+        };
+        match (*command, rest) {
+            (0x40, [_, _, _, _, rest @ ..]) if depth < DEEPEST => Ok((depth + 1, rest)),
+            (0x41, [variable, rest @ ..]) if depth < DEEPEST => {
                 if !may_read(self.variables, thread, *variable) {
                     return Err(StatementFault::WrongVariable(place));
                 }
                 Ok((depth + 1, rest))
             }
-            [0x42..=0x48, rest @ ..] if depth >= 2 => Ok((depth - 1, rest)),
-            [0x49, rest @ ..] if depth >= 1 => Ok((depth, rest)),
+            (0x42..=0x48, _) if depth >= 2 => Ok((depth - 1, rest)),
+            (0x49, _) if depth >= 1 => Ok((depth, rest)),
             _ => Err(StatementFault::BadExpression(place)),
         }
     }

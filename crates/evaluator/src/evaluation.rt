@@ -114,25 +114,28 @@ impl<'a, 'v, 'm, A: Arithmetic, S: Scope> Evaluation<'a, 'v, 'm, A, S> {
         ensures shorter { IfOk result (λ rest. length rest.now < length code.now) }
         ensures setting { SameSetting self.old self.new }
     {
+        let [command, rest @ ..] = code else {
+            return Err(Refusal::BadExpression(place));
+        };
         let depth = self.stack.depth();
-        match code {
-            [0x40, a, b, c, d, rest @ ..] if depth < DEEPEST => {
+        match (*command, rest) {
+            (0x40, [a, b, c, d, rest @ ..]) if depth < DEEPEST => {
                 let number = i32::from_le_bytes([*a, *b, *c, *d]);
                 self.stack_value(self.arithmetic.constant(number), place)?;
                 Ok(rest)
             }
-            [0x41, variable, rest @ ..] if depth < DEEPEST => {
+            (0x41, [variable, rest @ ..]) if depth < DEEPEST => {
                 self.stack_variable(*variable, place)?;
                 Ok(rest)
             }
-            [command @ 0x42..=0x48, rest @ ..] if depth >= 2 => {
-                let operator = Operator::try_from(*command).map_err(|_| Refusal::BadExpression(
+            (command @ 0x42..=0x48, _) if depth >= 2 => {
+                let operator = Operator::try_from(command).map_err(|_| Refusal::BadExpression(
                     place,
                 ))?;
                 self.operate_on_two(operator, place)?;
                 Ok(rest)
             }
-            [0x49, rest @ ..] if depth >= 1 => {
+            (0x49, _) if depth >= 1 => {
                 self.operate_on_one(place)?;
                 Ok(rest)
             }

@@ -6,21 +6,21 @@ use Rattle.stack.specs.Stacks.{stacked}
 use Rattle.evaluator.proofs.Taking.{from, operators_cover, operator_first, taken_ok, refused_first}
 use Rattle.evaluator.proofs.evaluation.Evaluation.perform.Goals as goal
 
-pub returns-in_err-operator-in-66-to-72-clause-answer :
-    goal.returns-in_err-operator-in-66-to-72-clause-answer
-returns-in_err-operator-in-66-to-72-clause-answer g c =
+pub returns-in_err-operator-in-66-to-72-default-clause-answer :
+    goal.returns-in_err-operator-in-66-to-72-default-clause-answer
+returns-in_err-operator-in-66-to-72-default-clause-answer g c =
     let cover = operators_cover (get_or c.args.code.now 0 0) (grind arith) (grind arith) in
     let e = c.try_from.ensures in
     absurd (grind (arith, common_steps))
 
-pub returns-in_ok-operate_on_two-in-66-to-72-clause-answer :
-    goal.returns-in_ok-operate_on_two-in-66-to-72-clause-answer
-returns-in_ok-operate_on_two-in-66-to-72-clause-answer g c =
+pub returns-in_ok-operate_on_two-in-66-to-72-default-clause-answer :
+    goal.returns-in_ok-operate_on_two-in-66-to-72-default-clause-answer
+returns-in_ok-operate_on_two-in-66-to-72-default-clause-answer g c =
     let bs = c.args.code.now in
-    let o = c.in_ok-operator-in-66-to-72.operator in
+    let o = c.in_ok-operator-in-66-to-72-default.operator in
     let e = c.try_from.ensures in
     let byte : operator_byte o ≡ get_or bs 0 0 = grind (arith, common_steps) in
-    taken_ok (g.A.Arithmetic.meaning c.args.self.now.arithmetic.now) _ _ (next_command bs) (operator o) (from 1 bs) _ _ (operator_first bs o byte) c.in_ok-operate_on_two-in-66-to-72.ensures.answer
+    taken_ok (g.A.Arithmetic.meaning c.args.self.now.arithmetic.now) _ _ (next_command bs) (operator o) (from 1 bs) _ _ (operator_first bs o byte) c.in_ok-operate_on_two-in-66-to-72-default.ensures.answer
 
 pub returns-in_default-clause-answer : goal.returns-in_default-clause-answer
 returns-in_default-clause-answer g c =
